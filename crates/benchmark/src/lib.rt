@@ -1,0 +1,73 @@
+// The Benchmark Maximum Charge of 28AD.7 to 28AD.13, the 112 figures of a sheet, and SET's refusals 1 to 5.
+// Promise: `charge_at` is the paper's formula; `work_out` answers SET's first refusal, or the figures with which tariffs are judged.
+// What the layer above may use: `Benchmarks`, `benchmarksOf` and `setCheck` of specs/Benchmark.antt, and `Lawful` of specs/Lawful.antt.
+ghost use mathlib.Core.Path.{_≡_};
+ghost use mathlib.Core.Bool.{true};
+ghost use Prim.Native.Nat.{_+_, _*_, _≤_, _<_};
+ghost use lib.ListN.{length, getD};
+ghost use Rattle.calendar.specs.Calendar.{periodInRange};
+ghost use Rattle.sheet.specs.Sheet.{Ranged, Indexed, field, round};
+ghost use Rattle.benchmark.specs.Benchmark.{four, wc, pc, oc, paenc, headroom, nc, panc, benchmark};
+use calendar::Period;
+use refusal::Check;
+
+// What a sheet and its period come to: the 112 charges by region, arrangement, method and level; m of each arrangement;
+// t; and the days.
+pub struct Benchmarks {
+    pub charges: [u32; 112],
+    pub levels: [u32; 2],
+    pub months: u32,
+    pub days: u32,
+}
+
+// SET's answer on a sheet and a period, and what they come to where it passes.
+pub struct Worked {
+    pub check: Check,
+    pub benchmarks: Benchmarks,
+}
+
+fn wide(x: u32) -> u64
+    ensures { λ r. ⌜ r ≡ x ⌝ }
+{
+    x as u64
+}
+
+// A part per million of a charge.
+fn ppm_of(p: u32, n: u64) -> u64
+    requires { ⌜ (p ≤ 1000000) × (n ≤ 10000000000) ⌝ }
+    ensures { λ r. ⌜ (r ≡ round (p * n) 1000000) × (r ≤ n) ⌝ }
+{
+    sheet::rounded((p as u64) * n, 1_000_000)
+}
+
+// WC + PC + OC at place f of the four.
+fn costs(s: &[u32], f: usize) -> u64
+    requires { ⌜ Indexed (now s) × (f < 4) ⌝ }
+    ensures { λ r. ⌜ (r ≡ wc (now (s .entry)) f + pc (now (s .entry)) f + oc (now (s .entry)) f) × (r ≤ 500000000) ⌝ }
+{
+    sheet::df_term(s, f)
+        + sheet::cm_term(s, f)
+        + sheet::pc_term(s, f)
+        + (sheet::oc_term(s, f) + wide(s[36]))
+}
+
+// PAENC for a method, where WC + PC + OC is known.
+fn paenc_of(s: &[u32], p: usize, costs: u64) -> u64
+    requires { ⌜ Indexed (now s) × (p < 2) × (costs ≤ 500000000) ⌝ }
+    ensures { λ r. ⌜ (r ≡ paenc (now (s .entry)) p costs) × (r ≤ 600000000) ⌝ }
+{
+    sheet::paac_term(s, p) + ppm_of(s[18 + p], costs)
+}
+
+// The Benchmark Maximum Charge of a region, an arrangement, a method and a level.
+pub fn charge_at(s: &[u32], region: usize, arrangement: usize, method: usize, level: usize) -> u64
+    requires { ⌜ Indexed (now s) × (region < 14) × (arrangement < 2) × (method < 2) × (level < 2) ⌝ }
+    ensures { λ r. ⌜ (r ≡ benchmark (now (s .entry)) region arrangement method level) × (r ≤ 2400000000) ⌝ }
+{
+    let f = 2 * arrangement + level;
+    let known = costs(s, f);
+    let paenc = paenc_of(s, method, known);
+    let headroom = ppm_of(s[16 + arrangement], known + paenc);
+    let network = s[37 + 4 * region + f];
+    known + wide(network) + headroom + paenc + ppm_of(s[18 + method], wide(network))
+}

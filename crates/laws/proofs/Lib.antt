@@ -1,0 +1,4 @@
+pub mod Every
+pub mod Lists
+pub mod Sums
+pub mod Differences

@@ -1,0 +1,40 @@
+-- Laws of lists by their index.
+-- Assumes nothing.
+use mathlib.Core.Path.{_≡_, refl, sym, _∙_, ap}
+use mathlib.Core.List.{List, [], _∷_}
+use Prim.Native.Nat.{ℕ, zero, suc, _+_, _-_, _<_, _≤_}
+use native.Mathlib.Nat.{add-zero, add-suc, suc-add, zero-add, le-of-suc-le-suc}
+use native.Mathlib.Numerals.{add-one}
+use native.Mathlib.Omega.{arith}
+use lib.ListN.{length, getD, take, drop, length-take, drop-of-length-le}
+use lib.Seq.{drop-cons, getD-take, length-take-le}
+use Rattle.laws.specs.Notions.{tabulate, tabulateFrom}
+
+-- the rest of the first n, with one element more or none
+pub drop-take : (xs : List ℕ) (n i : ℕ) → i < n → n ≤ length xs → drop i (take n xs) ≡ getD xs i 0 ∷ drop (i + 1) (take n xs)
+drop-take xs n i h k =
+    let l : i < length (take n xs) = omega (arith, length-take-le n xs k) in
+    rw (add-one, ← getD-take n xs i 0 h) (drop-cons (take n xs) i 0 l)
+
+pub drop-end : (xs : List ℕ) (n i : ℕ) → n ≤ i → drop i (take n xs) ≡ []
+drop-end xs n i h = drop-of-length-le (take n xs) {i = i} (omega (arith, length-take n xs))
+
+-- a table by its index
+length-from : (n i : ℕ) (f : ℕ → ℕ) → length (tabulateFrom i n f) ≡ n
+unfolding tabulateFrom
+length-from zero i f = refl
+length-from (suc n) i f = ap suc (length-from n (suc i) f)
+
+pub length-tabulate : (n : ℕ) (f : ℕ → ℕ) → length (tabulate n f) ≡ n
+unfolding tabulate
+length-tabulate n f = length-from n 0 f
+
+getD-from : (n i : ℕ) (f : ℕ → ℕ) (k : ℕ) → k < n → getD (tabulateFrom i n f) k 0 ≡ f (i + k)
+unfolding tabulateFrom
+getD-from zero i f k h = absurd (omega arith)
+getD-from (suc n) i f zero h = rw add-zero refl
+getD-from (suc n) i f (suc k) h = rw (add-suc, ← suc-add) (getD-from n (suc i) f k (le-of-suc-le-suc h))
+
+pub getD-tabulate : (n : ℕ) (f : ℕ → ℕ) (k : ℕ) → k < n → getD (tabulate n f) k 0 ≡ f k
+unfolding tabulate
+getD-tabulate n f k h = rw zero-add at (getD-from n 0 f k h)

@@ -1,0 +1,102 @@
+-- "The cost sheet" of document 01, and its indexed terms.
+-- Assumes nothing.
+use mathlib.Core.Path.{_≡_}
+use mathlib.Core.Bool.{Bool, true, false, cond, _&&_}
+use mathlib.Core.List.{List}
+use Prim.Native.Nat.{ℕ, _+_, _*_, _/_}
+use lib.Dec.{leb}
+use lib.ListN.{length, getD}
+use Rattle.laws.specs.Notions.{every}
+use Rattle.sheet.specs.declared.Range.{Range}
+
+-- "95 numbers"; field k of a sheet
+abbrev pub fieldCount : ℕ
+fieldCount = 95
+
+abbrev pub field : List ℕ → ℕ → ℕ
+field s k = getD s k 0
+
+-- money, parts per million, an initial and a current index, a consumption level m
+abbrev pub money : Range
+money = record { low = 0; high = 100000000 }
+
+abbrev pub ppm : Range
+ppm = record { low = 0; high = 1000000 }
+
+abbrev pub initialIndex : Range
+initialIndex = record { low = 1; high = 1000000000 }
+
+abbrev pub currentIndex : Range
+currentIndex = record { low = 0; high = 1000000000 }
+
+abbrev pub level : Range
+level = record { low = 1; high = 20000 }
+
+-- no value at all, for a number that is no field's
+abbrev pub nothing : Range
+nothing = record { low = 1; high = 0 }
+
+-- "The range of a field follows from its number": 0-15 money, 16-19 ppm, 20 and 21 money, 22-28 initial, 29-35 current,
+-- 36-92 money, 93 and 94 m
+unfoldable pub rangeOf : ℕ → Range
+rangeOf k =
+    cond (leb k 15) money
+    (cond (leb k 19) ppm
+    (cond (leb k 21) money
+    (cond (leb k 28) initialIndex
+    (cond (leb k 35) currentIndex
+    (cond (leb k 92) money (cond (leb k 94) level nothing))))))
+
+unfoldable pub fieldInRange : ℕ → ℕ → Bool
+fieldInRange k x = leb (rangeOf k .low) x && leb x (rangeOf k .high)
+
+-- no field is outside its range
+unfoldable pub fieldsInRange : List ℕ → Bool
+fieldsInRange s = every fieldCount (λ k. fieldInRange k (field s k))
+
+-- "Round(n, d)" is n / d to the nearest whole, halves up (proofs/Round.antt, `round-nearest`)
+unfoldable pub round : ℕ → ℕ → ℕ
+round n d = (2 * n + d) / (2 * d)
+
+-- "An indexed term is Round(baseline × current, initial)", each given by its field
+unfoldable pub indexed : List ℕ → ℕ → ℕ → ℕ → ℕ
+indexed s baseline current initial = round (field s baseline * field s current) (field s initial)
+
+-- the eighteen: DF0 by DFI, CM0 by CMI, PC0 by PI, OC0 by CPIH, at place f of the four; PAAC by CPIH, of method p
+abbrev pub dfTerm : List ℕ → ℕ → ℕ
+dfTerm s f = indexed s f 29 22
+
+abbrev pub cmTerm : List ℕ → ℕ → ℕ
+cmTerm s f = indexed s (4 + f) 30 23
+
+abbrev pub pcTerm : List ℕ → ℕ → ℕ
+pcTerm s f = indexed s (8 + f) (32 + f) (25 + f)
+
+abbrev pub ocTerm : List ℕ → ℕ → ℕ
+ocTerm s f = indexed s (12 + f) 31 24
+
+abbrev pub paacTerm : List ℕ → ℕ → ℕ
+paacTerm s p = indexed s (20 + p) 31 24
+
+-- the most that an indexed term may be
+abbrev pub termMost : ℕ
+termMost = 100000000
+
+-- no indexed term is above it
+unfoldable pub fourFit : List ℕ → ℕ → Bool
+fourFit s f = leb (dfTerm s f) termMost && leb (cmTerm s f) termMost && leb (pcTerm s f) termMost && leb (ocTerm s f) termMost
+
+unfoldable pub paacFits : List ℕ → ℕ → Bool
+paacFits s p = leb (paacTerm s p) termMost
+
+unfoldable pub termsFit : List ℕ → Bool
+termsFit s = every 4 (fourFit s) && (paacFits s 0 && paacFits s 1)
+
+-- a sheet that refusals 1 and 2 let pass, and one that 4 lets pass too
+pub record Ranged (s : List ℕ) : Type 0 where
+  pub count : length s ≡ fieldCount
+  pub ranges : fieldsInRange s ≡ true
+
+pub record Indexed (s : List ℕ) : Type 0 where
+  pub ranged : Ranged s
+  pub terms : termsFit s ≡ true

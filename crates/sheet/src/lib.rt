@@ -1,0 +1,154 @@
+// The cost sheet: 95 numbers, the range of each, and the eighteen indexed terms.
+// Promise: `fields_in_range` is refusal 2 and `terms_fit` refusal 4, turned round; each term is Round(baseline × current, initial).
+// What the layer above may use: the terms' names, `Ranged` and `Indexed` of specs/Sheet.antt, and the bounds in proofs/Bounds.antt.
+ghost use mathlib.Core.Path.{_≡_};
+ghost use mathlib.Core.Bool.{true};
+ghost use Prim.Native.Nat.{_+_, _*_, _≤_, _<_};
+ghost use lib.ListN.{length, getD};
+ghost use Rattle.sheet.specs.Sheet.{rangeOf, fieldInRange, fieldsInRange, round, field, indexed, dfTerm, cmTerm, pcTerm, ocTerm, paacTerm, fourFit, paacFits, termsFit, Ranged};
+
+pub struct Range {
+    pub low: u32,
+    pub high: u32,
+}
+
+// The range of a field follows from its number. Past 94 there is no field, and no value is allowed.
+pub fn range_of(number: usize) -> Range
+    ensures { λ r. ⌜ r ≡ rangeOf number ⌝ }
+{
+    match number {
+        0..=15 | 20..=21 | 36..=92 => Range {
+            low: 0,
+            high: 100_000_000,
+        },
+        16..=19 => Range {
+            low: 0,
+            high: 1_000_000,
+        },
+        22..=28 => Range {
+            low: 1,
+            high: 1_000_000_000,
+        },
+        29..=35 => Range {
+            low: 0,
+            high: 1_000_000_000,
+        },
+        93..=94 => Range {
+            low: 1,
+            high: 20_000,
+        },
+        _ => Range { low: 1, high: 0 },
+    }
+}
+
+fn field_in_range(number: usize, x: u32) -> bool
+    ensures { λ r. ⌜ r ≡ fieldInRange number x ⌝ }
+{
+    let r = range_of(number);
+    r.low <= x && x <= r.high
+}
+
+// Whether each of the 95 fields is in its range.
+pub fn fields_in_range(s: &[u32]) -> bool
+    requires { ⌜ length (now s) ≡ 95 ⌝ }
+    ensures { λ r. ⌜ r ≡ fieldsInRange (now (s .entry)) ⌝ }
+{
+    let mut i: usize = 0;
+    while i < 95 {
+        if !field_in_range(i, s[i]) {
+            return false;
+        }
+        i += 1;
+    }
+    true
+}
+
+// n / d to the nearest whole, halves up.
+pub fn rounded(n: u64, d: u64) -> u64
+    requires { ⌜ (n ≤ 1000000000000000000) × (1 ≤ d) × (d ≤ 1000000000) ⌝ }
+    ensures { λ r. ⌜ r ≡ round n d ⌝ }
+{
+    (2 * n + d) / (2 * d)
+}
+
+fn wide(x: u32) -> u64
+    ensures { λ r. ⌜ r ≡ x ⌝ }
+{
+    x as u64
+}
+
+// An indexed term: Round(baseline × current, initial), each given by its field number.
+fn indexed_term(s: &[u32], baseline: usize, current: usize, initial: usize) -> u64
+    requires { ⌜ Ranged (now s) × (baseline < 22) × (29 ≤ current) × (current < 36) × (22 ≤ initial) × (initial < 29) ⌝ }
+    ensures { λ r. ⌜ r ≡ indexed (now (s .entry)) baseline current initial ⌝ }
+{
+    rounded(wide(s[baseline]) * wide(s[current]), wide(s[initial]))
+}
+
+// The terms of place f of a four: DF, CM, PC and OC; and PAAC's of a method p.
+pub fn df_term(s: &[u32], f: usize) -> u64
+    requires { ⌜ Ranged (now s) × (f < 4) ⌝ }
+    ensures { λ r. ⌜ r ≡ dfTerm (now (s .entry)) f ⌝ }
+{
+    indexed_term(s, f, 29, 22)
+}
+
+pub fn cm_term(s: &[u32], f: usize) -> u64
+    requires { ⌜ Ranged (now s) × (f < 4) ⌝ }
+    ensures { λ r. ⌜ r ≡ cmTerm (now (s .entry)) f ⌝ }
+{
+    indexed_term(s, 4 + f, 30, 23)
+}
+
+pub fn pc_term(s: &[u32], f: usize) -> u64
+    requires { ⌜ Ranged (now s) × (f < 4) ⌝ }
+    ensures { λ r. ⌜ r ≡ pcTerm (now (s .entry)) f ⌝ }
+{
+    indexed_term(s, 8 + f, 32 + f, 25 + f)
+}
+
+pub fn oc_term(s: &[u32], f: usize) -> u64
+    requires { ⌜ Ranged (now s) × (f < 4) ⌝ }
+    ensures { λ r. ⌜ r ≡ ocTerm (now (s .entry)) f ⌝ }
+{
+    indexed_term(s, 12 + f, 31, 24)
+}
+
+pub fn paac_term(s: &[u32], p: usize) -> u64
+    requires { ⌜ Ranged (now s) × (p < 2) ⌝ }
+    ensures { λ r. ⌜ r ≡ paacTerm (now (s .entry)) p ⌝ }
+{
+    indexed_term(s, 20 + p, 31, 24)
+}
+
+fn four_fit(s: &[u32], f: usize) -> bool
+    requires { ⌜ Ranged (now s) × (f < 4) ⌝ }
+    ensures { λ r. ⌜ r ≡ fourFit (now (s .entry)) f ⌝ }
+{
+    df_term(s, f) <= 100_000_000
+        && cm_term(s, f) <= 100_000_000
+        && pc_term(s, f) <= 100_000_000
+        && oc_term(s, f) <= 100_000_000
+}
+
+fn paac_fits(s: &[u32], p: usize) -> bool
+    requires { ⌜ Ranged (now s) × (p < 2) ⌝ }
+    ensures { λ r. ⌜ r ≡ paacFits (now (s .entry)) p ⌝ }
+{
+    paac_term(s, p) <= 100_000_000
+}
+
+// Whether no indexed term is above 100,000,000.
+pub fn terms_fit(s: &[u32]) -> bool
+    requires { ⌜ Ranged (now s) ⌝ }
+    ensures { λ r. ⌜ r ≡ termsFit (now (s .entry)) ⌝ }
+{
+    let mut f: usize = 0;
+    while f < 4 {
+        if !four_fit(s, f) {
+            return false;
+        }
+        f += 1;
+    }
+    paac_fits(s, 0) && paac_fits(s, 1)
+}

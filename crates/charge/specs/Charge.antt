@@ -1,0 +1,47 @@
+-- "A tariff" of document 01: the charge of a list of months.
+-- Assumes nothing.
+use mathlib.Core.Bool.{Bool, true, false, cond}
+use mathlib.Core.List.{List, [], _∷_}
+use Prim.Native.Nat.{ℕ, _+_, _-_, _*_, min}
+use lib.Dec.{eqb}
+use lib.ListN.{take}
+use Rattle.laws.specs.Notions.{sum, total}
+use Rattle.tariff.specs.declared.Tariff.{Tariff}
+
+-- the rates in use; the steps between them; the shares in percent, 58:42 for Economy 7 (28AD.31)
+abbrev pub ratesInUse : Tariff → List ℕ
+ratesInUse x = take (x .n) (x .rates)
+
+abbrev pub tierSteps : Tariff → List ℕ
+tierSteps x = take (x .n - 1) (x .steps)
+
+abbrev pub shares : Tariff → List ℕ
+shares x = cond (eqb (x .kind) 2) (58 ∷ 42 ∷ []) (take (x .n) (x .steps))
+
+-- "Kind 1 is held to arrangement 0, kinds 2 and 3 to arrangement 1 (28AD.3, 28AD.4)."
+unfoldable pub arrangement : Tariff → ℕ
+arrangement x = cond (eqb (x .kind) 1) 0 1
+
+-- "kWh up to the first step are at the first rate, and so on; the last rate has no end": of the kWh above `from`
+unfoldable pub tierCharge : ℕ → List ℕ → List ℕ → ℕ → ℕ
+tierCharge from [] steps kwh = 0
+tierCharge from (r ∷ rs) [] kwh = r * (kwh - from)
+tierCharge from (r ∷ rs) (s ∷ ss) kwh = r * (min kwh s - from) + tierCharge s rs ss kwh
+
+-- the percentage-weighted rate, times 100
+unfoldable pub weighted : List ℕ → List ℕ → ℕ
+weighted [] shares = 0
+weighted (r ∷ rs) [] = 0
+weighted (r ∷ rs) (p ∷ ps) = r * p + weighted rs ps
+
+-- A charge with percentages in it is a fraction of a mill, so charges are kept times 100.
+-- a month's charge for its kWh, times 100
+unfoldable pub monthCharge : Tariff → ℕ → ℕ
+monthCharge x kwh =
+    cond (eqb (x .kind) 1) (100 * tierCharge 0 (ratesInUse x) (tierSteps x) kwh) (weighted (ratesInUse x) (shares x) * kwh)
+
+-- "The charge is standing × days plus the months' tier charges, or plus total × the percentage-weighted rate", times 100
+unfoldable pub charge : Tariff → ℕ → List ℕ → ℕ
+charge x days months =
+    100 * (x .standing * days)
+    + cond (eqb (x .kind) 1) (100 * total (tierCharge 0 (ratesInUse x) (tierSteps x)) months) (weighted (ratesInUse x) (shares x) * sum months)

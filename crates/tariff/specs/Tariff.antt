@@ -1,0 +1,73 @@
+-- "A tariff" of document 01: the record and refusal 8.
+-- Assumes nothing.
+use mathlib.Core.Bool.{Bool, true, false, cond, _&&_, _||_}
+use mathlib.Core.List.{List, [], _∷_}
+use Prim.Native.Nat.{ℕ, _+_, _-_}
+use lib.Dec.{leb, ltb, eqb}
+use lib.ListN.{length, getD, take}
+use Rattle.laws.specs.Notions.{every, sum}
+use Rattle.refusal.specs.declared.Check.{Check}
+use Rattle.refusal.specs.declared.Check.the-variants.{Pass, Refuse}
+use Rattle.refusal.specs.Checks.{unless}
+use Rattle.tariff.specs.declared.Tariff.{Tariff}
+
+-- "13 numbers: 0 kind; 1 n; 2 standing charge per day; 3 regions; 4 methods; 5-8 rates; 9-12 steps."
+abbrev pub tariffOf : List ℕ → Tariff
+tariffOf x =
+    record {
+      kind = getD x 0 0;
+      n = getD x 1 0;
+      standing = getD x 2 0;
+      regions = getD x 3 0;
+      methods = getD x 4 0;
+      rates = getD x 5 0 ∷ getD x 6 0 ∷ getD x 7 0 ∷ getD x 8 0 ∷ [];
+      steps = getD x 9 0 ∷ getD x 10 0 ∷ getD x 11 0 ∷ getD x 12 0 ∷ [];
+    }
+
+-- rates in mills per kWh, 0 to 200,000
+unfoldable pub ratesWithin : List ℕ → Bool
+ratesWithin rates = every 4 (λ i. leb (getD rates i 0) 200000)
+
+-- "Places beyond those used are 0": of four places, those from k on
+unfoldable pub zeroFrom : List ℕ → ℕ → Bool
+zeroFrom a k = every 4 (λ i. ltb i k || eqb (getD a i 0) 0)
+
+-- the first k numbers are from low to high; they are strictly rising
+unfoldable pub within : List ℕ → ℕ → ℕ → ℕ → Bool
+within a k low high = every k (λ i. leb low (getD a i 0) && leb (getD a i 0) high)
+
+unfoldable pub rising : List ℕ → ℕ → Bool
+rising a k = every (k - 1) (λ i. ltb (getD a i 0) (getD a (i + 1) 0))
+
+-- "Kind 1, single-register: n 1 to 4, n - 1 steps strictly rising, 1 to 9,999."
+unfoldable pub singleRegister : Tariff → Bool
+singleRegister x =
+    leb 1 (x .n) && leb (x .n) 4
+    && (within (x .steps) (x .n - 1) 1 9999 && rising (x .steps) (x .n - 1) && zeroFrom (x .rates) (x .n) && zeroFrom (x .steps) (x .n - 1))
+
+-- "Kind 2, Economy 7: n 2, peak rate then off-peak, no steps."
+unfoldable pub economy7 : Tariff → Bool
+economy7 x = eqb (x .n) 2 && zeroFrom (x .rates) 2 && zeroFrom (x .steps) 0
+
+-- "Kind 3, other multi-register: n 2 to 4, n steps that are percentages 0 to 100 with sum 100."
+unfoldable pub multiRegister : Tariff → Bool
+multiRegister x =
+    leb 2 (x .n) && leb (x .n) 4
+    && (within (x .steps) (x .n) 0 100 && eqb (sum (take (x .n) (x .steps))) 100 && zeroFrom (x .rates) (x .n) && zeroFrom (x .steps) (x .n))
+
+unfoldable pub validKind : Tariff → Bool
+validKind x =
+    cond (eqb (x .kind) 1) (singleRegister x) (cond (eqb (x .kind) 2) (economy7 x) (cond (eqb (x .kind) 3) (multiRegister x) false))
+
+-- standing charge 0 to 1,000,000; regions bits 0 to 13, not empty; methods bits 0 and 1, not empty; the rates; the kind
+unfoldable pub validTariff : Tariff → Bool
+validTariff x =
+    leb (x .standing) 1000000
+    && (leb 1 (x .regions) && leb (x .regions) 16383)
+    && (leb 1 (x .methods) && leb (x .methods) 3)
+    && ratesWithin (x .rates)
+    && validKind x
+
+-- refusal 8: "not such a record, its length included"
+unfoldable pub recordCheck : List ℕ → Check
+recordCheck x = unless (eqb (length x) 13 && validTariff (tariffOf x)) 8 Pass

@@ -1,0 +1,194 @@
+// A tariff: its record of 13 numbers, and refusal 8.
+// Promise: `check` is refusal 8, "not such a record, its length included", for any list of numbers.
+// What the layer above may use: `Tariff`, `tariffOf`, `validTariff` and `recordCheck` of specs/Tariff.antt, and the laws of a
+// valid tariff in proofs/Valid.antt.
+ghost use mathlib.Core.Path.{_≡_};
+ghost use Prim.Native.Nat.{_≤_};
+ghost use lib.ListN.{length, take};
+ghost use Rattle.laws.specs.Notions.{sum};
+ghost use Rattle.tariff.specs.Tariff.{tariffOf, ratesWithin, zeroFrom, within, rising, singleRegister, economy7, multiRegister, validTariff, recordCheck};
+use refusal::Check;
+
+// A record: numbers 0 to 4, the rates (5 to 8) and the steps (9 to 12).
+pub struct Tariff {
+    pub kind: u32,
+    pub n: u32,
+    pub standing: u32,
+    pub regions: u32,
+    pub methods: u32,
+    pub rates: [u32; 4],
+    pub steps: [u32; 4],
+}
+
+// The tariff of a record.
+pub fn tariff_of(x: &[u32]) -> Tariff
+    requires { ⌜ length (now x) ≡ 13 ⌝ }
+    ensures { λ r. ⌜ r ≡ tariffOf (now (x .entry)) ⌝ }
+{
+    Tariff {
+        kind: x[0],
+        n: x[1],
+        standing: x[2],
+        regions: x[3],
+        methods: x[4],
+        rates: [x[5], x[6], x[7], x[8]],
+        steps: [x[9], x[10], x[11], x[12]],
+    }
+}
+
+// Each rate is at most 200,000.
+fn rates_within(rates: [u32; 4]) -> bool
+    ensures { λ r. ⌜ r ≡ ratesWithin rates ⌝ }
+{
+    let mut i: usize = 0;
+    while i < 4 {
+        if 200_000 < rates[i] {
+            return false;
+        }
+        i += 1;
+    }
+    true
+}
+
+// The places from k on are 0.
+fn zero_from(a: [u32; 4], k: usize) -> bool
+    requires { ⌜ k ≤ 4 ⌝ }
+    ensures { λ r. ⌜ r ≡ zeroFrom a k ⌝ }
+{
+    let mut i: usize = 0;
+    while i < 4 {
+        if k <= i && a[i] != 0 {
+            return false;
+        }
+        i += 1;
+    }
+    true
+}
+
+// The first k numbers are from low to high.
+fn all_within(a: [u32; 4], k: usize, low: u32, high: u32) -> bool
+    requires { ⌜ k ≤ 4 ⌝ }
+    ensures { λ r. ⌜ r ≡ within a k low high ⌝ }
+{
+    let mut i: usize = 0;
+    while i < k {
+        if a[i] < low || high < a[i] {
+            return false;
+        }
+        i += 1;
+    }
+    true
+}
+
+// The first k numbers rise strictly.
+fn all_rising(a: [u32; 4], k: usize) -> bool
+    requires { ⌜ k ≤ 4 ⌝ }
+    ensures { λ r. ⌜ r ≡ rising a k ⌝ }
+{
+    let mut i: usize = 0;
+    while i + 1 < k {
+        if a[i + 1] <= a[i] {
+            return false;
+        }
+        i += 1;
+    }
+    true
+}
+
+// The sum of the first k numbers.
+fn sum_of(a: [u32; 4], k: usize) -> u64
+    requires { ⌜ k ≤ 4 ⌝ }
+    ensures { λ r. ⌜ r ≡ sum (take k a) ⌝ }
+{
+    let mut sum: u64 = 0;
+    let mut i: usize = 0;
+    while i < k {
+        sum += wide(a[i]);
+        i += 1;
+    }
+    sum
+}
+
+fn wide(x: u32) -> u64
+    ensures { λ r. ⌜ r ≡ x ⌝ }
+{
+    x as u64
+}
+
+fn single_register(x: Tariff) -> bool
+    ensures { λ r. ⌜ r ≡ singleRegister x ⌝ }
+{
+    let rates = x.rates;
+    let steps = x.steps;
+    if x.n < 1 || 4 < x.n {
+        return false;
+    }
+    let n = x.n as usize;
+    all_within(steps, n - 1, 1, 9_999)
+        && all_rising(steps, n - 1)
+        && zero_from(rates, n)
+        && zero_from(steps, n - 1)
+}
+
+fn economy_7(x: Tariff) -> bool
+    ensures { λ r. ⌜ r ≡ economy7 x ⌝ }
+{
+    let rates = x.rates;
+    let steps = x.steps;
+    x.n == 2 && zero_from(rates, 2) && zero_from(steps, 0)
+}
+
+fn multi_register(x: Tariff) -> bool
+    ensures { λ r. ⌜ r ≡ multiRegister x ⌝ }
+{
+    let rates = x.rates;
+    let steps = x.steps;
+    if x.n < 2 || 4 < x.n {
+        return false;
+    }
+    let n = x.n as usize;
+    all_within(steps, n, 0, 100)
+        && sum_of(steps, n) == 100
+        && zero_from(rates, n)
+        && zero_from(steps, n)
+}
+
+// Whether the numbers of a record are such as document 01 allows.
+fn valid(x: Tariff) -> bool
+    ensures { λ r. ⌜ r ≡ validTariff x ⌝ }
+{
+    let rates = x.rates;
+    if 1_000_000 < x.standing {
+        return false;
+    }
+    if x.regions < 1 || 16_383 < x.regions {
+        return false;
+    }
+    if x.methods < 1 || 3 < x.methods {
+        return false;
+    }
+    if !rates_within(rates) {
+        return false;
+    }
+    let kind = x.kind;
+    match kind {
+        1 => single_register(x),
+        2 => economy_7(x),
+        3 => multi_register(x),
+        _ => false,
+    }
+}
+
+// Refusal 8: not such a record, its length included.
+pub fn check(x: &[u32]) -> Check
+    ensures { λ r. ⌜ r ≡ recordCheck (now (x .entry)) ⌝ }
+{
+    if x.len() != 13 {
+        return Check::Refuse(8);
+    }
+    if valid(tariff_of(x)) {
+        Check::Pass
+    } else {
+        Check::Refuse(8)
+    }
+}

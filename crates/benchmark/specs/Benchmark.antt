@@ -4,7 +4,7 @@ use mathlib.Core.Bool.{Bool, true, false, _&&_}
 use mathlib.Core.List.{List, [], _∷_}
 use Prim.Native.Nat.{ℕ, _+_, _*_, _/_, _%_}
 use lib.Dec.{leb, eqb}
-use lib.ListN.{length, replicate}
+use lib.ListN.{length, getD, replicate}
 use Rattle.laws.specs.Notions.{every, tabulate}
 use Rattle.refusal.specs.declared.Check.{Check}
 use Rattle.refusal.specs.declared.Check.the-variants.{Pass, Refuse}
@@ -60,3 +60,37 @@ benchmark s r a p l =
     let costs = wc s f + pc s f + oc s f in
     let e = paenc s p costs in
     wc s f + nc s r f + pc s f + oc s f + headroom s a (costs + e) + e + panc s p (nc s r f)
+
+-- The 112 figures in one list, by region, then arrangement, method and level: the place of a figure, and the figure of a place.
+abbrev pub place : ℕ → ℕ → ℕ → ℕ → ℕ
+place r a p l = 8 * r + 4 * a + 2 * p + l
+
+unfoldable pub figure : List ℕ → ℕ → ℕ
+figure s k = benchmark s (k / 8) (k / 4 % 2) (k / 2 % 2) (k % 2)
+
+unfoldable pub figures : List ℕ → List ℕ
+figures s = tabulate 112 (figure s)
+
+-- no benchmark at m is below its benchmark at nil, in any region, arrangement and method: 56 pairs
+unfoldable pub ordered : List ℕ → Bool
+ordered charges = every 56 (λ j. leb (getD charges (2 * j) 0) (getD charges (2 * j + 1) 0))
+
+-- what a sheet and its period come to
+unfoldable pub benchmarksOf : List ℕ → Period → Benchmarks
+benchmarksOf s p =
+    record { charges = figures s; levels = field s 93 ∷ field s 94 ∷ []; months = p .months; days = periodDays p }
+
+-- SET's checks. "1: not 95 numbers. 2: a field outside its range. 3: a period outside its range. 4: an indexed term above
+-- 100,000,000. 5: some benchmark at m below its benchmark at nil."
+unfoldable pub setCheck : List ℕ → Period → Check
+setCheck s p =
+    unless (eqb (length s) fieldCount) 1
+    (unless (fieldsInRange s) 2 (unless (periodInRange p) 3 (unless (termsFit s) 4 (unless (ordered (figures s)) 5 Pass))))
+
+-- nothing worked out, beside a refusal
+abbrev pub noBenchmarks : Benchmarks
+noBenchmarks = record { charges = replicate 112 0; levels = replicate 2 0; months = 0; days = 0 }
+
+abbrev pub workedIf : Check → Benchmarks → Benchmarks
+workedIf Pass b = b
+workedIf (Refuse n) b = noBenchmarks

@@ -1,1 +1,2 @@
 pub mod Benchmark
+pub mod Lawful

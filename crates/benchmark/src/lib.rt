@@ -7,7 +7,7 @@ ghost use Prim.Native.Nat.{_+_, _*_, _≤_, _<_};
 ghost use lib.ListN.{length, getD};
 ghost use Rattle.calendar.specs.Calendar.{periodInRange};
 ghost use Rattle.sheet.specs.Sheet.{Ranged, Indexed, field, round};
-ghost use Rattle.benchmark.specs.Benchmark.{four, wc, pc, oc, paenc, headroom, nc, panc, benchmark};
+ghost use Rattle.benchmark.specs.Benchmark.{wc, pc, oc, paenc, benchmark, figure, figures, ordered, benchmarksOf, setCheck, noBenchmarks, workedIf};
 use calendar::Period;
 use refusal::Check;
 
@@ -70,4 +70,85 @@ pub fn charge_at(s: &[u32], region: usize, arrangement: usize, method: usize, le
     let headroom = ppm_of(s[16 + arrangement], known + paenc);
     let network = s[37 + 4 * region + f];
     known + wide(network) + headroom + paenc + ppm_of(s[18 + method], wide(network))
+}
+
+// The figure at a place of the 112.
+fn figure_at(s: &[u32], k: usize) -> u32
+    requires { ⌜ Indexed (now s) × (k < 112) ⌝ }
+    ensures { λ r. ⌜ r ≡ figure (now (s .entry)) k ⌝ }
+{
+    charge_at(s, k / 8, k / 4 % 2, k / 2 % 2, k % 2) as u32
+}
+
+// The 112 figures.
+fn figures_of(s: &[u32]) -> [u32; 112]
+    requires { ⌜ Indexed (now s) ⌝ }
+    ensures { λ r. ⌜ r ≡ figures (now (s .entry)) ⌝ }
+{
+    let mut charges = [0u32; 112];
+    let mut k: usize = 0;
+    while k < 112 {
+        charges[k] = figure_at(s, k);
+        k += 1;
+    }
+    charges
+}
+
+// Whether no benchmark at m is below its benchmark at nil.
+fn all_ordered(charges: [u32; 112]) -> bool
+    ensures { λ r. ⌜ r ≡ ordered charges ⌝ }
+{
+    let mut j: usize = 0;
+    while j < 56 {
+        if charges[2 * j + 1] < charges[2 * j] {
+            return false;
+        }
+        j += 1;
+    }
+    true
+}
+
+fn refused(n: u32) -> Worked
+    ensures { λ r. ⌜ (r .check ≡ Check.Refuse n) × (r .benchmarks ≡ noBenchmarks) ⌝ }
+{
+    Worked {
+        check: Check::Refuse(n),
+        benchmarks: Benchmarks {
+            charges: [0; 112],
+            levels: [0; 2],
+            months: 0,
+            days: 0,
+        },
+    }
+}
+
+// SET's checks on a lent sheet and a period, and what they come to where all pass.
+pub fn work_out(s: &[u32], p: Period) -> Worked
+    ensures { λ r. ⌜ (r .check ≡ setCheck (now (s .entry)) p) × (r .benchmarks ≡ workedIf (setCheck (now (s .entry)) p) (benchmarksOf (now (s .entry)) p)) ⌝ }
+{
+    if s.len() != 95 {
+        return refused(1);
+    }
+    if !sheet::fields_in_range(s) {
+        return refused(2);
+    }
+    if !calendar::in_range(p) {
+        return refused(3);
+    }
+    if !sheet::terms_fit(s) {
+        return refused(4);
+    }
+    let charges = figures_of(s);
+    if !all_ordered(charges) {
+        return refused(5);
+    }
+    Worked {
+        check: Check::Pass,
+        benchmarks: Benchmarks {
+            charges,
+            levels: [s[93], s[94]],
+            months: p.months,
+            days: calendar::days(p),
+        },
+    }
 }

@@ -4,9 +4,9 @@ use mathlib.Core.Path.{_≡_, refl, sym, _∙_, ap}
 use mathlib.Core.Bool.{Bool, true, false, cond}
 use Prim.Native.Nat.{ℕ, zero, suc, _+_, _-_, _<_, _≤_}
 use native.Mathlib.Omega.{arith}
-use lib.Dec.{T, ltb, leb}
+use lib.Dec.{T, ltb, leb, lt→ltb, ltb→lt}
 use lib.IntN.{ℤ, pos, negsuc, _-ℤ_, subℕ}
-use lib.Signed.{ltZ, leZ, _<ℤ_, _≤ℤ_, ltZ-yes, leZ-yes}
+use lib.Signed.{ltZ, leZ, _<ℤ_, _≤ℤ_, ltZ-yes, ltZ-no}
 use borrow.Author.Tests.{ltb-true, ltb-false, lt-ltb, le-ltb}
 
 -- a - b, by which of the two is less
@@ -63,3 +63,16 @@ above a b = go (ltb b a) refl
         less-or false q =
             let h : b ≤ a = ltb-false a b q in
             rw (no-less a b h) (same 0 (a - b) b a (λ l. omega arith) (λ l. omega arith))
+
+-- so differences are compared by sums
+pub difference-less : (a b c d : ℕ) → a + d < c + b → (pos a -ℤ pos b) <ℤ (pos c -ℤ pos d)
+difference-less a b c d h = ltZ-yes (rw (crossed a b c d) (lt→ltb (a + d) (c + b) h))
+
+pub difference-at-most : (a b c d : ℕ) → a + d ≤ c + b → (pos a -ℤ pos b) ≤ℤ (pos c -ℤ pos d)
+difference-at-most a b c d h = ltZ-no (rw (crossed c d a b, le-ltb (c + b) (a + d) h) tt)
+
+pub difference-above : (a b : ℕ) → b < a → pos 0 <ℤ (pos a -ℤ pos b)
+difference-above a b h = ltZ-yes (rw (above a b) (lt→ltb b a h))
+
+pub above-difference : (a b : ℕ) → pos 0 <ℤ (pos a -ℤ pos b) → b < a
+above-difference a b h = ltb→lt b a (rw (above a b) at (h .lt))

@@ -2,3 +2,4 @@ pub mod Every
 pub mod Lists
 pub mod Sums
 pub mod Differences
+pub mod Greatest

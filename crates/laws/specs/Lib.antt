@@ -1,1 +1,2 @@
 pub mod Notions
+pub mod Greatest

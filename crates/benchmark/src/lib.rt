@@ -7,7 +7,7 @@ ghost use Prim.Native.Nat.{_+_, _*_, _≤_, _<_};
 ghost use lib.ListN.{length, getD};
 ghost use Rattle.calendar.specs.Calendar.{periodInRange};
 ghost use Rattle.sheet.specs.Sheet.{Ranged, Indexed, field, round};
-ghost use Rattle.benchmark.specs.Benchmark.{wc, pc, oc, paenc, benchmark, figure, figures, ordered, benchmarksOf, setCheck, noBenchmarks, workedIf};
+ghost use Rattle.benchmark.specs.Benchmark.{smncc, wc, pc, oc, paenc, benchmark, figure, figures, ordered, benchmarksOf, setCheck, noBenchmarks, workedIf};
 use calendar::Period;
 use refusal::Check;
 
@@ -40,6 +40,14 @@ fn ppm_of(p: u32, n: u64) -> u64
     sheet::rounded((p as u64) * n, 1_000_000)
 }
 
+// SMNCC, the same at both levels.
+fn smncc_of(s: &[u32]) -> u64
+    requires { ⌜ Indexed (now s) ⌝ }
+    ensures { λ r. ⌜ r ≡ smncc (now (s .entry)) ⌝ }
+{
+    wide(s[36])
+}
+
 // WC + PC + OC at place f of the four.
 fn costs(s: &[u32], f: usize) -> u64
     requires { ⌜ Indexed (now s) × (f < 4) ⌝ }
@@ -48,7 +56,7 @@ fn costs(s: &[u32], f: usize) -> u64
     sheet::df_term(s, f)
         + sheet::cm_term(s, f)
         + sheet::pc_term(s, f)
-        + (sheet::oc_term(s, f) + wide(s[36]))
+        + (sheet::oc_term(s, f) + smncc_of(s))
 }
 
 // PAENC for a method, where WC + PC + OC is known.
@@ -67,9 +75,10 @@ pub fn charge_at(s: &[u32], region: usize, arrangement: usize, method: usize, le
     let f = 2 * arrangement + level;
     let known = costs(s, f);
     let paenc = paenc_of(s, method, known);
-    let headroom = ppm_of(s[16 + arrangement], known + paenc);
-    let network = s[37 + 4 * region + f];
-    known + wide(network) + headroom + paenc + ppm_of(s[18 + method], wide(network))
+    let network = wide(s[37 + 4 * region + f]);
+    let shared = known + paenc;
+    let whole = shared + network;
+    whole + ppm_of(s[16 + arrangement], shared) + ppm_of(s[18 + method], network)
 }
 
 // The figure at a place of the 112.
@@ -129,24 +138,29 @@ pub fn work_out(s: &[u32], p: Period) -> Worked
     if s.len() != 95 {
         return refused(1);
     }
-    if !sheet::fields_in_range(s) {
+    let fields = sheet::fields_in_range(s);
+    let period = calendar::in_range(p);
+    if !fields {
         return refused(2);
     }
-    if !calendar::in_range(p) {
+    if !period {
         return refused(3);
     }
-    if !sheet::terms_fit(s) {
+    let terms = sheet::terms_fit(s);
+    if !terms {
         return refused(4);
     }
     let charges = figures_of(s);
     if !all_ordered(charges) {
         return refused(5);
     }
+    let single = s[93];
+    let economy = s[94];
     Worked {
         check: Check::Pass,
         benchmarks: Benchmarks {
             charges,
-            levels: [s[93], s[94]],
+            levels: [single, economy],
             months: p.months,
             days: calendar::days(p),
         },

@@ -34,6 +34,12 @@ weighted [] shares = 0
 weighted (r ∷ rs) [] = 0
 weighted (r ∷ rs) (p ∷ ps) = r * p + weighted rs ps
 
+-- each register's share of the kWh, in percent, at its rate
+unfoldable pub registers : List ℕ → List ℕ → ℕ → ℕ
+registers [] shares kwh = 0
+registers (r ∷ rs) [] kwh = 0
+registers (r ∷ rs) (p ∷ ps) kwh = r * (p * kwh) + registers rs ps kwh
+
 -- A charge with percentages in it is a fraction of a mill, so charges are kept times 100.
 -- a month's charge for its kWh, times 100
 unfoldable pub monthCharge : Tariff → ℕ → ℕ

@@ -26,6 +26,8 @@ Rising from (s ∷ ss) end = (from < s) × Rising s ss end
 pub record Sound (t : Tiers) : Type 0 where
   pub some : 1 ≤ t .n
   pub few : t .n ≤ 4
+  pub rate-count : length (t .rates) ≡ 4
+  pub step-count : length (t .steps) ≡ 4
   pub rates : (i : ℕ) → getD (t .rates) i 0 ≤ 20000000
   pub rising : Rising 0 (take (t .n - 1) (t .steps)) 10000
 

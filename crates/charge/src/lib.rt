@@ -46,7 +46,9 @@ fn weighted_rate(rates: [u32; 4], shares: [u32; 4], n: usize) -> u64
     let mut i: usize = 0;
     let mut w: u64 = 0;
     while i < n {
-        w += wide(rates[i]) * wide(shares[i]);
+        let rate = wide(rates[i]);
+        let share = wide(shares[i]);
+        w += rate * share;
         i += 1;
     }
     w
@@ -125,16 +127,25 @@ pub fn tier_charge(t: Tiers, used: Kwh) -> Mills
     Mills(sum + part(rates[i], x, from).0)
 }
 
+// The kWh of a month of a list.
+fn kwh_at(months: &[u32], i: usize) -> Kwh
+    requires { ⌜ i < length (now months) ⌝ }
+    ensures { λ r. ⌜ r .0 ≡ getD (now (months .entry)) i 0 ⌝ }
+{
+    Kwh(wide(months[i]))
+}
+
 // A hundred times the charge of a tariff for a list of months and the days of the period.
 pub fn charge_of(x: Tariff, days: u32, months: &[u32]) -> Mills
     requires { ⌜ (validTariff x ≡ true) × (days ≤ 372) × (length (now months) ≤ 12) × ((i : ℕ) → getD (now months) i 0 ≤ 10000) ⌝ }
     ensures { λ r. ⌜ (r .0 ≡ charge x days (now (months .entry))) × (r .0 ≤ 2437200000000) ⌝ }
 {
     let tiers = tiers_of(x);
-    let mut sum: u64 = 100 * (wide(x.standing) * wide(days));
+    let count = months.len();
+    let mut sum: u64 = 100 * (wide(x.standing) * (days as u64));
     let mut i: usize = 0;
-    while i < months.len() {
-        sum += tier_charge(tiers, Kwh(wide(months[i]))).0;
+    while i < count {
+        sum += tier_charge(tiers, kwh_at(months, i)).0;
         i += 1;
     }
     Mills(sum)

@@ -1,6 +1,6 @@
 -- What the definitions of the other crates are written in.
 -- Assumes nothing.
-use mathlib.Core.Bool.{Bool, true, false, _&&_}
+use mathlib.Core.Bool.{Bool, true, false, cond, _&&_}
 use mathlib.Core.List.{List, [], _∷_}
 use Prim.Native.Nat.{ℕ, zero, suc, _+_}
 
@@ -27,3 +27,7 @@ tabulateFrom i (suc n) f = f i ∷ tabulateFrom (suc i) n f
 -- f 0 to f (n - 1)
 unfoldable pub tabulate : ℕ → (ℕ → ℕ) → List ℕ
 tabulate n f = tabulateFrom 0 n f
+
+-- how many of 0 to n - 1 a test holds at
+unfoldable pub count : ℕ → (ℕ → Bool) → ℕ
+count n f = sum (tabulate n (λ i. cond (f i) 1 0))

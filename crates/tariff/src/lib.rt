@@ -1,7 +1,7 @@
 // A tariff: its record of 13 numbers, and refusal 8.
 // Promise: `check` is refusal 8, "not such a record, its length included", for any list of numbers.
 // What the layer above may use: `Tariff`, `tariffOf`, `validTariff` and `recordCheck` of specs/Tariff.antt, and the laws of a
-// valid tariff in proofs/Valid.antt.
+// valid tariff in proofs/Validity.antt.
 ghost use mathlib.Core.Path.{_≡_};
 ghost use Prim.Native.Nat.{_≤_};
 ghost use lib.ListN.{length, take};
@@ -55,9 +55,9 @@ fn zero_from(a: [u32; 4], k: usize) -> bool
     requires { ⌜ k ≤ 4 ⌝ }
     ensures { λ r. ⌜ r ≡ zeroFrom a k ⌝ }
 {
-    let mut i: usize = 0;
+    let mut i: usize = k;
     while i < 4 {
-        if k <= i && a[i] != 0 {
+        if a[i] != 0 {
             return false;
         }
         i += 1;
@@ -72,7 +72,10 @@ fn all_within(a: [u32; 4], k: usize, low: u32, high: u32) -> bool
 {
     let mut i: usize = 0;
     while i < k {
-        if a[i] < low || high < a[i] {
+        if a[i] < low {
+            return false;
+        }
+        if high < a[i] {
             return false;
         }
         i += 1;
@@ -109,8 +112,9 @@ fn sum_of(a: [u32; 4], k: usize) -> u64
     sum
 }
 
+// A number of 32 bits as one of 64.
 fn wide(x: u32) -> u64
-    ensures { λ r. ⌜ r ≡ x ⌝ }
+    ensures { λ r. ⌜ (r ≡ x) × (r ≤ 4294967295) ⌝ }
 {
     x as u64
 }
@@ -120,14 +124,17 @@ fn single_register(x: Tariff) -> bool
 {
     let rates = x.rates;
     let steps = x.steps;
-    if x.n < 1 || 4 < x.n {
+    let tiers = x.n as usize;
+    if tiers < 1 {
         return false;
     }
-    let n = x.n as usize;
-    all_within(steps, n - 1, 1, 9_999)
-        && all_rising(steps, n - 1)
-        && zero_from(rates, n)
-        && zero_from(steps, n - 1)
+    if 4 < tiers {
+        return false;
+    }
+    all_within(steps, tiers - 1, 1, 9_999)
+        && all_rising(steps, tiers - 1)
+        && zero_from(rates, tiers)
+        && zero_from(steps, tiers - 1)
 }
 
 fn economy_7(x: Tariff) -> bool
@@ -143,28 +150,37 @@ fn multi_register(x: Tariff) -> bool
 {
     let rates = x.rates;
     let steps = x.steps;
-    if x.n < 2 || 4 < x.n {
+    let registers = x.n as usize;
+    if registers < 2 {
         return false;
     }
-    let n = x.n as usize;
-    all_within(steps, n, 0, 100)
-        && sum_of(steps, n) == 100
-        && zero_from(rates, n)
-        && zero_from(steps, n)
+    if 4 < registers {
+        return false;
+    }
+    all_within(steps, registers, 0, 100)
+        && sum_of(steps, registers) == 100
+        && zero_from(rates, registers)
+        && zero_from(steps, registers)
 }
 
 // Whether the numbers of a record are such as document 01 allows.
-fn valid(x: Tariff) -> bool
+fn is_valid(x: Tariff) -> bool
     ensures { λ r. ⌜ r ≡ validTariff x ⌝ }
 {
     let rates = x.rates;
     if 1_000_000 < x.standing {
         return false;
     }
-    if x.regions < 1 || 16_383 < x.regions {
+    if x.regions < 1 {
         return false;
     }
-    if x.methods < 1 || 3 < x.methods {
+    if 16_383 < x.regions {
+        return false;
+    }
+    if x.methods < 1 {
+        return false;
+    }
+    if 3 < x.methods {
         return false;
     }
     if !rates_within(rates) {
@@ -186,7 +202,7 @@ pub fn check(x: &[u32]) -> Check
     if x.len() != 13 {
         return Check::Refuse(8);
     }
-    if valid(tariff_of(x)) {
+    if is_valid(tariff_of(x)) {
         Check::Pass
     } else {
         Check::Refuse(8)

@@ -1,0 +1,135 @@
+-- A sheet and a period that SET accepts: what its checks give, each of the 112 figures, and that what they come to is lawful.
+-- Assumes nothing.
+use mathlib.Core.Path.{_≡_, refl, _∙_}
+use mathlib.Core.Bool.{Bool, true, false}
+use mathlib.Core.List.{List, [], _∷_}
+use Prim.Native.Nat.{ℕ, zero, suc, _+_, _*_, _/_, _%_, _<_, _≤_}
+use native.Mathlib.Decide.{decLe}
+use native.Mathlib.Omega.{arith}
+use lib.Dec.{leb, eqb}
+use lib.ListN.{length, getD, List·getD-eq-default}
+use borrow.Author.Tests.{leb-true, eqb-true}
+use Rattle.laws.proofs.Lists.{length-tabulate, getD-tabulate}
+use Rattle.laws.proofs.Every.{every-at}
+use Rattle.refusal.specs.declared.Check.{Check}
+use Rattle.refusal.specs.declared.Check.the-variants.{Pass}
+use Rattle.refusal.specs.Checks.{unless}
+use Rattle.calendar.specs.declared.Period.{Period}
+use Rattle.calendar.specs.Calendar.{periodInRange}
+use Rattle.calendar.proofs.Periods.{within}
+use Rattle.calendar.proofs.Lengths.{days-most}
+use Rattle.sheet.specs.Sheet.{Ranged, Indexed, field, fieldsInRange, termsFit}
+use Rattle.sheet.proofs.Bounds.{level-some, level-most}
+use Rattle.benchmark.specs.Benchmark.{place, benchmark, figure, figures, ordered, benchmarksOf, setCheck}
+use Rattle.benchmark.specs.Lawful.{Lawful}
+use Rattle.benchmark.proofs.Sizes.{benchmark-most}
+
+-- a check that passes has its test true, and the checks after it pass
+unless-passes : (t : Bool) (n : ℕ) (next : Check) → unless t n next ≡ Pass → (t ≡ true) × (next ≡ Pass)
+unless-passes true n next e = (refl, e)
+unless-passes false n next e = absurd (let z : _≡_ {A = ℕ} 0 1 = cc in omega arith)
+
+module _ (s : List ℕ) (p : Period) (e : setCheck s p ≡ Pass) where
+  checks-passed :
+      (eqb (length s) 95 ≡ true) × (fieldsInRange s ≡ true) × (periodInRange p ≡ true) × (termsFit s ≡ true) × (ordered (figures s) ≡ true)
+  unfolding setCheck
+  checks-passed =
+      let one = unless-passes (eqb (length s) 95) 1 _ e in
+      let two = unless-passes (fieldsInRange s) 2 _ (one .1) in
+      let three = unless-passes (periodInRange p) 3 _ (two .1) in
+      let four = unless-passes (termsFit s) 4 _ (three .1) in
+      let five = unless-passes (ordered (figures s)) 5 _ (four .1) in
+      (one .0, two .0, three .0, four .0, five .0)
+
+  pub passed-count : length s ≡ 95
+  passed-count = eqb-true (length s) 95 (checks-passed .0)
+
+  pub passed-ranges : fieldsInRange s ≡ true
+  passed-ranges = checks-passed .1
+
+  pub passed-period : periodInRange p ≡ true
+  passed-period = checks-passed .2
+
+  pub passed-terms : termsFit s ≡ true
+  passed-terms = checks-passed .3
+
+  pub passed-ordered : ordered (figures s) ≡ true
+  passed-ordered = checks-passed .4
+
+  pub passed-ranged : Ranged s
+  passed-ranged = record { count = passed-count; ranges = passed-ranges }
+
+  pub passed-indexed : Indexed s
+  passed-indexed = record { ranged = passed-ranged; terms = passed-terms }
+
+-- each of the 112 figures, by its place: the paper's formula
+pub figure-at-index : (s : List ℕ) (k : ℕ) → k < 112 → getD (figures s) k 0 ≡ figure s k
+unfolding figures
+figure-at-index s k h = getD-tabulate 112 (figure s) k h
+
+pub figure-count : (s : List ℕ) → length (figures s) ≡ 112
+unfolding figures
+figure-count s = length-tabulate 112 (figure s)
+
+figure-of-place : (s : List ℕ) (r a p l : ℕ) → a < 2 → p < 2 → l < 2 → figure s (place r a p l) ≡ benchmark s r a p l
+unfolding figure
+figure-of-place s r a p l ha hp hl =
+    let k = 8 * r + 4 * a + 2 * p + l in
+    let er : k / 8 ≡ r = omega arith in
+    let ea : k / 4 % 2 ≡ a = omega arith in
+    let ep : k / 2 % 2 ≡ p = omega arith in
+    let el : k % 2 ≡ l = omega arith in
+    rw (er, ea, ep, el)
+
+pub charge-at-place :
+    (s : List ℕ) (r a p l : ℕ) → r < 14 → a < 2 → p < 2 → l < 2 → getD (figures s) (place r a p l) 0 ≡ benchmark s r a p l
+charge-at-place s r a p l hr ha hp hl = figure-at-index s (place r a p l) (omega arith) ∙ figure-of-place s r a p l ha hp hl
+
+module _ (s : List ℕ) (h : Indexed s) where
+  figure-most : (k : ℕ) → k < 112 → figure s k ≤ 2400000000
+  unfolding figure
+  figure-most k l = benchmark-most s h (k / 8) (k / 4 % 2) (k / 2 % 2) (k % 2) (omega arith) (omega arith) (omega arith) (omega arith)
+
+  pub charge-most : (k : ℕ) → getD (figures s) k 0 ≤ 2400000000
+  charge-most k = go (decLe 112 k)
+    where
+      go : Dec (112 ≤ k) → getD (figures s) k 0 ≤ 2400000000
+      go (yes l) = omega (arith, List·getD-eq-default (figures s) 0 {n = k} (omega (arith, figure-count s)))
+      go (no l) = omega (arith, figure-at-index s k (omega arith), figure-most k (omega arith))
+
+-- no figure at m is below its figure at nil
+pub ordered-at : (charges : List ℕ) → ordered charges ≡ true → (j : ℕ) → j < 56 → getD charges (2 * j) 0 ≤ getD charges (2 * j + 1) 0
+unfolding ordered
+ordered-at charges e j h =
+    leb-true
+    (getD charges (2 * j) 0)
+    (getD charges (2 * j + 1) 0)
+    (every-at (λ i. leb (getD charges (2 * i) 0) (getD charges (2 * i + 1) 0)) 56 e j h)
+
+-- the two levels by their index
+pair-some : (x y : ℕ) → 1 ≤ x → 1 ≤ y → (a : ℕ) → a < 2 → 1 ≤ getD (x ∷ y ∷ []) a 0
+pair-some x y hx hy zero l = hx
+pair-some x y hx hy (suc zero) l = hy
+pair-some x y hx hy (suc (suc a)) l = absurd (omega arith)
+
+pair-most : (m x y : ℕ) → x ≤ m → y ≤ m → (a : ℕ) → getD (x ∷ y ∷ []) a 0 ≤ m
+pair-most m x y hx hy zero = hx
+pair-most m x y hx hy (suc zero) = hy
+pair-most m x y hx hy (suc (suc a)) = omega arith
+
+-- what a sheet and a period that SET accepts come to
+pub lawful : (s : List ℕ) (p : Period) → setCheck s p ≡ Pass → Lawful (benchmarksOf s p)
+unfolding benchmarksOf
+lawful s p e =
+    let h : Ranged s = passed-ranged s p e in
+    record {
+      charge-count = figure-count s;
+      level-count = refl;
+      charges-most = charge-most s (passed-indexed s p e);
+      nil-at-most-m = ordered-at (figures s) (passed-ordered s p e);
+      level-some = pair-some (field s 93) (field s 94) (level-some s h 93 (omega arith) (omega arith)) (level-some s h 94 (omega arith) (omega arith));
+      level-most = pair-most 20000 (field s 93) (field s 94) (level-most s h 93 (omega arith) (omega arith)) (level-most s h 94 (omega arith) (omega arith));
+      months-some = within p (passed-period s p e) .months-least;
+      months-most = within p (passed-period s p e) .months-most;
+      days-most = days-most p (passed-period s p e);
+    }

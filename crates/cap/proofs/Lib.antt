@@ -1,0 +1,5 @@
+pub mod Scan
+pub mod Worst
+pub mod Candidates
+pub mod Sizes
+pub mod Verdicts

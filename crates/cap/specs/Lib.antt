@@ -1,0 +1,3 @@
+pub mod Cap
+pub mod Decided
+pub mod Judged

@@ -1,0 +1,106 @@
+-- The table of starred verdicts holds: the figures of the sheet by computation, the verdicts by the scan of the corners.
+-- Assumes nothing.
+use mathlib.Core.Path.{_≡_, refl, sym, _∙_, ap, subst}
+use mathlib.Core.Bool.{Bool, true, false}
+use mathlib.Core.List.{List, [], _∷_, _++_}
+use Prim.Native.Nat.{ℕ, zero, suc, _<_}
+use lib.Count.{ones, onesIn}
+use lib.Dec.{lit<}
+use lib.IntN.{ℤ, pos, negsuc}
+use lib.ListN.{length}
+use lib.Signed.{_<ℤ_, ltZ-yes}
+use Rattle.laws.specs.Notions.{every, sum, total, tabulate, tabulateFrom}
+use Rattle.calendar.specs.Calendar.{periodDays, periodInRange, monthBegins, lengthAt, monthLength, leapYear}
+use Rattle.sheet.specs.Sheet.{rangeOf, fieldInRange, fieldsInRange, round, indexed, fourFit, paacFits, termsFit}
+use Rattle.benchmark.specs.declared.Benchmarks.{Benchmarks}
+use Rattle.benchmark.specs.Benchmark.{benchmark, wc, pc, oc, nc, paenc, headroom, panc, figure, figures, ordered, setCheck, benchmarksOf}
+use Rattle.tariff.specs.declared.Tariff.{Tariff}
+use Rattle.tariff.specs.Tariff.{tariffOf, recordCheck, validTariff, validKind, singleRegister, economy7, multiRegister, ratesWithin, zeroFrom, within, rising}
+use Rattle.charge.specs.Charge.{arrangement, tierCharge, weighted, monthCharge, charge}
+use Rattle.charge.specs.Tiers.{Rising, hundredths, ends}
+use Rattle.cap.specs.Cap.{maximum, charged, capped, excess}
+use Rattle.cap.proofs.Scan.{scan}
+use Rattle.verdict.specs.Cells.{Cell, bit, offered, terms, cellCount, Verdict, opens, over, verdict}
+use Rattle.verdict.proofs.Scanned.{scannedBelow, scannedVerdict, verdict-scanned}
+use Rattle.reference.specs.SheetS.{times, sheetS, periodS, flat, tiered, economySeven}
+use Rattle.reference.specs.Starred.{Starred, benchmarksS, firstOther, verdictOn, excessOf}
+
+-- the figures, worked out: each region's eight
+known : Benchmarks
+known =
+    record {
+      charges = times 14 (9418050 ∷ 66183090 ∷ 8817500 ∷ 64469500 ∷ 9418050 ∷ 72982410 ∷ 8817500 ∷ 71135500 ∷ []);
+      levels = 3000 ∷ 4000 ∷ [];
+      months = 3;
+      days = 92;
+    }
+
+is-known : benchmarksS ≡ known
+unfolding benchmarksOf figures figure tabulate tabulateFrom benchmark wc pc oc nc paenc headroom panc indexed round sheetS times periodDays monthBegins lengthAt monthLength leapYear known
+is-known = refl
+
+-- a verdict by the scan, on the known figures
+by-scan : (x : List ℕ) (v : Verdict) → length (hundredths (tariffOf x)) ≡ suc (length (ends (tariffOf x))) → Rising 0 (ends (tariffOf x)) 10000
+    → scannedVerdict known (tariffOf x) ≡ v → verdictOn x ≡ v
+by-scan x v fit rise e =
+    ap (λ (b : Benchmarks). verdict b (tariffOf x)) is-known ∙ verdict-scanned known (tariffOf x) fit rise ∙ e
+
+-- the excess in region 0 with method 1, on the known figures
+by-figures : (x months : List ℕ) (d : ℤ) → excess (terms known (tariffOf x) firstOther) (tariffOf x) months ≡ d → excessOf x months ≡ d
+by-figures x months d e = ap (λ (b : Benchmarks). excess (terms b (tariffOf x) firstOther) (tariffOf x) months) is-known ∙ e
+
+-- the starred verdicts, by the scan
+record Scanned (judge : List ℕ → Verdict) : Type 0 where
+  within : judge (flat 23000 18000) ≡ opens 28
+  just-within : judge (flat 23960 18000) ≡ opens 28
+  just-over : judge (flat 23961 18000) ≡ over firstOther (0 ∷ 0 ∷ 0 ∷ []) (pos 133200000)
+  tiers-over : judge (tiered 20000 20000 100 15000) ≡ over firstOther (100 ∷ 100 ∷ 100 ∷ []) (pos 253530000000)
+  at-the-cap : judge (tiered 0 165509 5 0) ≡ opens 28
+  a-mill-over : judge (tiered 0 165510 5 0) ≡ over firstOther (5 ∷ 5 ∷ 5 ∷ []) (pos 54000000)
+  economy-over : judge (economySeven 23000 18000 12250) ≡ over firstOther (10000 ∷ 10000 ∷ 10000 ∷ []) (pos 367800000000)
+
+computed : Scanned (λ x. scannedVerdict known (tariffOf x))
+unfolding scannedVerdict scannedBelow offered bit terms arrangement scan tierCharge weighted monthCharge charge maximum charged capped excess sum total ends cellCount ones onesIn known times
+computed =
+    record {
+      within = refl;
+      just-within = refl;
+      just-over = refl;
+      tiers-over = refl;
+      at-the-cap = refl;
+      a-mill-over = refl;
+      economy-over = refl;
+    }
+
+-- 300 kWh in one month, and 5 kWh in each
+below : excessOf (tiered 20000 20000 100 15000) (300 ∷ 0 ∷ 0 ∷ []) ≡ negsuc 3346469999999
+unfolding terms arrangement tierCharge charge maximum charged capped excess sum total known times
+below = by-figures (tiered 20000 20000 100 15000) (300 ∷ 0 ∷ 0 ∷ []) _ refl
+
+nought : excessOf (tiered 0 165509 5 0) (5 ∷ 5 ∷ 5 ∷ []) ≡ pos 0
+unfolding terms arrangement tierCharge charge maximum charged capped excess sum total known times
+nought = by-figures (tiered 0 165509 5 0) (5 ∷ 5 ∷ 5 ∷ []) _ refl
+
+-- THE TABLE
+pub starred : Starred
+unfolding setCheck fieldsInRange fieldInRange rangeOf every termsFit fourFit paacFits ordered periodInRange figures figure tabulate tabulateFrom benchmark wc pc oc nc paenc headroom panc indexed round sheetS times periodDays monthBegins lengthAt monthLength leapYear hundredths ends Rising recordCheck validTariff validKind singleRegister economy7 multiRegister ratesWithin zeroFrom within rising
+starred =
+    record {
+      accepted = refl;
+      days = refl;
+      other-nil = refl;
+      other-m = refl;
+      credit-nil = refl;
+      credit-m = refl;
+      economy-m = refl;
+      within = by-scan (flat 23000 18000) _ refl (lit< tt) (computed .within);
+      just-within = by-scan (flat 23960 18000) _ refl (lit< tt) (computed .just-within);
+      just-over = by-scan (flat 23961 18000) _ refl (lit< tt) (computed .just-over);
+      tiers-over = by-scan (tiered 20000 20000 100 15000) _ refl (lit< tt, lit< tt) (computed .tiers-over);
+      one-month-below = subst (λ (d : ℤ). d <ℤ pos 0) (sym below) (ltZ-yes tt);
+      at-the-cap = by-scan (tiered 0 165509 5 0) _ refl (lit< tt, lit< tt) (computed .at-the-cap);
+      excess-nought = nought;
+      a-mill-over = by-scan (tiered 0 165510 5 0) _ refl (lit< tt, lit< tt) (computed .a-mill-over);
+      economy-over = by-scan (economySeven 23000 18000 12250) _ refl (lit< tt) (computed .economy-over);
+      records = (refl, refl, refl);
+    }

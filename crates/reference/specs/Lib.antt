@@ -1,0 +1,2 @@
+pub mod SheetS
+pub mod Starred

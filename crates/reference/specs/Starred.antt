@@ -1,0 +1,62 @@
+-- The starred verdicts of document 01's reference sheet, as one table about the definitions.
+-- Assumes nothing.
+use mathlib.Core.Path.{_≡_}
+use mathlib.Core.Bool.{Bool, true, false, _&&_}
+use mathlib.Core.List.{List, [], _∷_}
+use Prim.Native.Nat.{ℕ}
+use lib.Dec.{eqb}
+use lib.IntN.{ℤ, pos, negsuc}
+use lib.Signed.{_<ℤ_}
+use Rattle.laws.specs.Notions.{every}
+use Rattle.refusal.specs.declared.Check.the-variants.{Pass}
+use Rattle.calendar.specs.Calendar.{periodDays}
+use Rattle.benchmark.specs.declared.Benchmarks.{Benchmarks}
+use Rattle.benchmark.specs.Benchmark.{benchmark, benchmarksOf, setCheck}
+use Rattle.tariff.specs.Tariff.{tariffOf, recordCheck}
+use Rattle.cap.specs.Cap.{excess}
+use Rattle.verdict.specs.Cells.{Cell, Verdict, opens, over, verdict, terms}
+use Rattle.reference.specs.SheetS.{sheetS, periodS, flat, tiered, economySeven}
+
+-- the figures of sheet S for its period
+abbrev pub benchmarksS : Benchmarks
+benchmarksS = benchmarksOf sheetS periodS
+
+-- region 0 with method 1, Other
+abbrev pub firstOther : Cell
+firstOther = record { region = 0; method = 1 }
+
+-- the verdict on a record, and the excess of months in region 0 with method 1
+abbrev pub verdictOn : List ℕ → Verdict
+verdictOn x = verdict benchmarksS (tariffOf x)
+
+abbrev pub excessOf : List ℕ → List ℕ → ℤ
+excessOf x months = excess (terms benchmarksS (tariffOf x) firstOther) (tariffOf x) months
+
+-- in every region, alike
+abbrev pub everywhere : ℕ → ℕ → ℕ → ℕ → Bool
+everywhere arrangement method level charge = every 14 (λ region. eqb (benchmark sheetS region arrangement method level) charge)
+
+pub record Starred : Type 0 where
+  pub accepted : setCheck sheetS periodS ≡ Pass
+  pub days : periodDays periodS ≡ 92
+  -- single-rate, Other and Standard Credit, at nil and m; Economy 7, Other, at m
+  pub other-nil : everywhere 0 1 0 8817500 ≡ true
+  pub other-m : everywhere 0 1 1 64469500 ≡ true
+  pub credit-nil : everywhere 0 0 0 9418050 ≡ true
+  pub credit-m : everywhere 0 0 1 66183090 ≡ true
+  pub economy-m : everywhere 1 1 1 71135500 ≡ true
+  -- standing charge 23,000, 23,960 and 23,961 with one rate of 18,000
+  pub within : verdictOn (flat 23000 18000) ≡ opens 28
+  pub just-within : verdictOn (flat 23960 18000) ≡ opens 28
+  pub just-over : verdictOn (flat 23961 18000) ≡ over firstOther (0 ∷ 0 ∷ 0 ∷ []) (pos 133200000)
+  -- 20,000 to 100 kWh, then 15,000: over with 100 kWh in each month, and below the cap with the same 300 kWh in one month
+  pub tiers-over : verdictOn (tiered 20000 20000 100 15000) ≡ over firstOther (100 ∷ 100 ∷ 100 ∷ []) (pos 253530000000)
+  pub one-month-below : excessOf (tiered 20000 20000 100 15000) (300 ∷ 0 ∷ 0 ∷ []) <ℤ pos 0
+  -- 165,509 to 5 kWh, then 0: exactly at the cap with 5 kWh in each month, and one mill more is over
+  pub at-the-cap : verdictOn (tiered 0 165509 5 0) ≡ opens 28
+  pub excess-nought : excessOf (tiered 0 165509 5 0) (5 ∷ 5 ∷ 5 ∷ []) ≡ pos 0
+  pub a-mill-over : verdictOn (tiered 0 165510 5 0) ≡ over firstOther (5 ∷ 5 ∷ 5 ∷ []) (pos 54000000)
+  -- Economy 7
+  pub economy-over : verdictOn (economySeven 23000 18000 12250) ≡ over firstOther (10000 ∷ 10000 ∷ 10000 ∷ []) (pos 367800000000)
+  -- each of these records is a tariff
+  pub records : (recordCheck (flat 23000 18000) ≡ Pass) × (recordCheck (tiered 20000 20000 100 15000) ≡ Pass) × (recordCheck (economySeven 23000 18000 12250) ≡ Pass)

@@ -1,0 +1,99 @@
+-- Bounds of a sheet's fields, from their ranges, and of its indexed terms.
+-- Assumes nothing.
+use mathlib.Core.Path.{_≡_}
+use mathlib.Core.Bool.{Bool, true, _&&_}
+use mathlib.Core.List.{List}
+use Prim.Native.Nat.{ℕ, _<_, _≤_}
+use native.Mathlib.Decide.{decLe}
+use native.Mathlib.Omega.{arith}
+use lib.Dec.{leb}
+use borrow.Author.Tests.{leb-true}
+use Rattle.laws.specs.Notions.{every}
+use Rattle.laws.proofs.Every.{every-at, and-left, and-right}
+use Rattle.sheet.specs.Sheet.{field, rangeOf, fieldInRange, fieldsInRange, termMost, dfTerm, cmTerm, pcTerm, ocTerm, paacTerm, fourFit, paacFits, termsFit, Ranged, Indexed}
+use Rattle.sheet.proofs.Ranges.{money-first, ppm-at, money-middle, initial-at, current-at, money-last, level-at, in-range-bounds}
+
+module _ (s : List ℕ) (h : Ranged s) where
+  pub bounds : (k : ℕ) → k < 95 → (rangeOf k .low ≤ field s k) × (field s k ≤ rangeOf k .high)
+  unfolding fieldsInRange
+  bounds k l = in-range-bounds k (field s k) (every-at (λ j. fieldInRange j (field s j)) 95 (h .ranges) k l)
+
+  pub ppm-most : (k : ℕ) → 16 ≤ k → k < 20 → field s k ≤ 1000000
+  ppm-most k g l = rw (ppm-at k g l) at (bounds k (omega arith) .1)
+
+  -- a baseline or a share, fields 0 to 21
+  pub base-most : (k : ℕ) → k < 22 → field s k ≤ 100000000
+  base-most k l = go (decLe k 15) (decLe k 19)
+    where
+      go : Dec (k ≤ 15) → Dec (k ≤ 19) → field s k ≤ 100000000
+      go (yes a) b = rw (money-first k (omega arith)) at (bounds k (omega arith) .1)
+      go (no a) (yes b) = omega (arith, ppm-most k (omega arith) (omega arith))
+      go (no a) (no b) = rw (money-middle k (omega arith) l) at (bounds k (omega arith) .1)
+
+  pub initial-some : (k : ℕ) → 22 ≤ k → k < 29 → 1 ≤ field s k
+  initial-some k g l = rw (initial-at k g l) at (bounds k (omega arith) .0)
+
+  pub initial-most : (k : ℕ) → 22 ≤ k → k < 29 → field s k ≤ 1000000000
+  initial-most k g l = rw (initial-at k g l) at (bounds k (omega arith) .1)
+
+  pub current-most : (k : ℕ) → 29 ≤ k → k < 36 → field s k ≤ 1000000000
+  current-most k g l = rw (current-at k g l) at (bounds k (omega arith) .1)
+
+  -- SMNCC and NC, fields 36 to 92
+  pub money-most : (k : ℕ) → 36 ≤ k → k < 93 → field s k ≤ 100000000
+  money-most k g l = rw (money-last k g l) at (bounds k (omega arith) .1)
+
+  pub level-some : (k : ℕ) → 93 ≤ k → k < 95 → 1 ≤ field s k
+  level-some k g l = rw (level-at k g l) at (bounds k l .0)
+
+  pub level-most : (k : ℕ) → 93 ≤ k → k < 95 → field s k ≤ 20000
+  level-most k g l = rw (level-at k g l) at (bounds k l .1)
+
+-- four tests that hold together
+four-parts : (a b c d : Bool) → (a && b && c && d) ≡ true → (a ≡ true) × (b ≡ true) × (c ≡ true) × (d ≡ true)
+four-parts a b c d e =
+    let abc : (a && b && c) ≡ true = and-left (a && b && c) d e in
+    let ab : (a && b) ≡ true = and-left (a && b) c abc in
+    (and-left a b ab, and-right a b ab, and-right (a && b) c abc, and-right (a && b && c) d e)
+
+module _ (s : List ℕ) (h : Indexed s) where
+  terms-apart : (every 4 (fourFit s) ≡ true) × (paacFits s 0 ≡ true) × (paacFits s 1 ≡ true)
+  unfolding termsFit
+  terms-apart =
+      let both : (paacFits s 0 && paacFits s 1) ≡ true = and-right (every 4 (fourFit s)) (paacFits s 0 && paacFits s 1) (h .terms) in (
+        and-left (every 4 (fourFit s)) (paacFits s 0 && paacFits s 1) (h .terms),
+        and-left (paacFits s 0) (paacFits s 1) both,
+        and-right (paacFits s 0) (paacFits s 1) both,
+      )
+
+  module _ (f : ℕ) (l : f < 4) where
+    four-tests :
+        (leb (dfTerm s f) termMost ≡ true) × (leb (cmTerm s f) termMost ≡ true) × (leb (pcTerm s f) termMost ≡ true) × (leb (ocTerm s f) termMost ≡ true)
+    unfolding fourFit
+    four-tests =
+        four-parts
+        (leb (dfTerm s f) termMost)
+        (leb (cmTerm s f) termMost)
+        (leb (pcTerm s f) termMost)
+        (leb (ocTerm s f) termMost)
+        (every-at (fourFit s) 4 (terms-apart .0) f l)
+
+    pub df-most : dfTerm s f ≤ 100000000
+    df-most = leb-true (dfTerm s f) termMost (four-tests .0)
+
+    pub cm-most : cmTerm s f ≤ 100000000
+    cm-most = leb-true (cmTerm s f) termMost (four-tests .1)
+
+    pub pc-most : pcTerm s f ≤ 100000000
+    pc-most = leb-true (pcTerm s f) termMost (four-tests .2)
+
+    pub oc-most : ocTerm s f ≤ 100000000
+    oc-most = leb-true (ocTerm s f) termMost (four-tests .3)
+
+  pub paac-most : (p : ℕ) → p < 2 → paacTerm s p ≤ 100000000
+  unfolding paacFits
+  paac-most p l = go (decLe p 0)
+    where
+      go : Dec (p ≤ 0) → paacTerm s p ≤ 100000000
+      go (yes a) = let e : p ≡ 0 = omega arith in rw e (leb-true (paacTerm s 0) termMost (terms-apart .1))
+      go (no a) = let e : p ≡ 1 = omega arith in rw e (leb-true (paacTerm s 1) termMost (terms-apart .2))

@@ -1,0 +1,26 @@
+-- `sheet::rounded` meets its contract, which is its own formula: nothing overflows.
+-- Assumes nothing.
+use mathlib.Core.Path.{refl}
+use borrow.Author.Needs.{needs}
+use Rattle.sheet.specs.Sheet.{round}
+use Rattle.sheet.proofs.rounded.Statement.{statement}
+use Rattle.sheet.proofs.rounded.Tie as tie
+
+mul-result : tie.Need-mul-result
+mul-result c = search needs
+
+add-result : tie.Need-add-result
+add-result c = search needs
+
+mul-result-2 : tie.Need-mul-result-2
+mul-result-2 c = search needs
+
+div-result : tie.Need-div-result
+div-result c = search needs
+
+returns : tie.Need-returns
+unfolding round
+returns c = refl
+
+pub rounded-spec : {M : Type 1} → statement M
+rounded-spec = tie.close (tie.spec mul-result add-result mul-result-2 div-result returns)

@@ -1,0 +1,123 @@
+-- What a valid tariff keeps to, by its parts and by its kind.
+-- Assumes nothing.
+use mathlib.Core.Path.{_≡_, refl}
+use mathlib.Core.Bool.{Bool, true, false, cond, _&&_}
+use mathlib.Core.List.{List}
+use Prim.Native.Nat.{ℕ, _+_, _-_, _<_, _≤_}
+use native.Mathlib.Omega.{arith}
+use lib.Dec.{leb, ltb, eqb}
+use lib.ListN.{getD, take}
+use borrow.Author.Tests.{leb-true, ltb-true, eqb-true}
+use Rattle.laws.specs.Notions.{sum}
+use Rattle.laws.proofs.Every.{and-left, and-right, every-at}
+use Rattle.tariff.specs.declared.Tariff.{Tariff}
+use Rattle.tariff.specs.Tariff.{ratesWithin, zeroFrom, within, rising, singleRegister, economy7, multiRegister, validKind, validTariff}
+
+-- the parts of joined tests that hold
+three : (a b c : Bool) → (a && b && c) ≡ true → (a ≡ true) × (b ≡ true) × (c ≡ true)
+three a b c e =
+    let ab : (a && b) ≡ true = and-left (a && b) c e in
+    (and-left a b ab, and-right a b ab, and-right (a && b) c e)
+
+five : (a b c d k : Bool) → (a && b && c && d && k) ≡ true → (a ≡ true) × (b ≡ true) × (c ≡ true) × (d ≡ true) × (k ≡ true)
+five a b c d k e =
+    let abcd : (a && b && c && d) ≡ true = and-left (a && b && c && d) k e in
+    let p = three a b c (and-left (a && b && c) d abcd) in
+    (p .0, p .1, p .2, and-right (a && b && c) d abcd, and-right (a && b && c && d) k e)
+
+-- a number between two others
+between : (low a high : ℕ) → (leb low a && leb a high) ≡ true → (low ≤ a) × (a ≤ high)
+between low a high e = (leb-true low a (and-left (leb low a) (leb a high) e), leb-true a high (and-right (leb low a) (leb a high) e))
+
+parts : (x : Tariff) → validTariff x ≡ true
+    → (leb (x .standing) 1000000 ≡ true)
+    × ((leb 1 (x .regions) && leb (x .regions) 16383) ≡ true)
+    × ((leb 1 (x .methods) && leb (x .methods) 3) ≡ true)
+    × (ratesWithin (x .rates) ≡ true)
+    × (validKind x ≡ true)
+unfolding validTariff
+parts x v =
+    five (leb (x .standing) 1000000) (leb 1 (x .regions) && leb (x .regions) 16383) (leb 1 (x .methods) && leb (x .methods) 3) (ratesWithin (x .rates)) (validKind x) v
+
+pub valid-standing : (x : Tariff) → validTariff x ≡ true → x .standing ≤ 1000000
+valid-standing x v = leb-true (x .standing) 1000000 (parts x v .0)
+
+pub valid-regions : (x : Tariff) → validTariff x ≡ true → (1 ≤ x .regions) × (x .regions ≤ 16383)
+valid-regions x v = between 1 (x .regions) 16383 (parts x v .1)
+
+pub valid-methods : (x : Tariff) → validTariff x ≡ true → (1 ≤ x .methods) × (x .methods ≤ 3)
+valid-methods x v = between 1 (x .methods) 3 (parts x v .2)
+
+pub valid-rates : (x : Tariff) → validTariff x ≡ true → ratesWithin (x .rates) ≡ true
+valid-rates x v = parts x v .3
+
+pub valid-kind : (x : Tariff) → validTariff x ≡ true → validKind x ≡ true
+valid-kind x v = parts x v .4
+
+pub rates-at : (rates : List ℕ) → ratesWithin rates ≡ true → (i : ℕ) → i < 4 → getD rates i 0 ≤ 200000
+unfolding ratesWithin
+rates-at rates e i h = leb-true (getD rates i 0) 200000 (every-at (λ i. leb (getD rates i 0) 200000) 4 e i h)
+
+pub within-at : (a : List ℕ) (k low high : ℕ) → within a k low high ≡ true → (i : ℕ) → i < k → (low ≤ getD a i 0) × (getD a i 0 ≤ high)
+unfolding within
+within-at a k low high e i h = between low (getD a i 0) high (every-at (λ i. leb low (getD a i 0) && leb (getD a i 0) high) k e i h)
+
+pub rising-at : (a : List ℕ) (k : ℕ) → rising a k ≡ true → (i : ℕ) → i + 1 < k → getD a i 0 < getD a (i + 1) 0
+unfolding rising
+rising-at a k e i h =
+    ltb-true (getD a i 0) (getD a (i + 1) 0) (every-at (λ i. ltb (getD a i 0) (getD a (i + 1) 0)) (k - 1) e i (omega arith))
+
+-- the kind is 1, 2 or 3
+by-test : {P : Type 0} (x : Tariff) (a b c : Bool) → eqb (x .kind) 1 ≡ a → eqb (x .kind) 2 ≡ b → eqb (x .kind) 3 ≡ c
+    → cond a (singleRegister x) (cond b (economy7 x) (cond c (multiRegister x) false)) ≡ true
+    → (x .kind ≡ 1 → P) → (x .kind ≡ 2 → P) → (x .kind ≡ 3 → P) → P
+by-test x true b c p q r e f g h = f (eqb-true (x .kind) 1 p)
+by-test x false true c p q r e f g h = g (eqb-true (x .kind) 2 q)
+by-test x false false true p q r e f g h = h (eqb-true (x .kind) 3 r)
+by-test x false false false p q r e f g h = absurd (let z : _≡_ {A = ℕ} 0 1 = cc in omega arith)
+
+pub by-kind : {P : Type 0} (x : Tariff) → validTariff x ≡ true → (x .kind ≡ 1 → P) → (x .kind ≡ 2 → P) → (x .kind ≡ 3 → P) → P
+unfolding validKind
+by-kind x v f g h = by-test x (eqb (x .kind) 1) (eqb (x .kind) 2) (eqb (x .kind) 3) refl refl refl (valid-kind x v) f g h
+
+pub valid-kinds : (x : Tariff) → validTariff x ≡ true → (1 ≤ x .kind) × (x .kind ≤ 3)
+valid-kinds x v = by-kind x v (λ k. (omega arith, omega arith)) (λ k. (omega arith, omega arith)) (λ k. (omega arith, omega arith))
+
+-- kind 1: n from 1 to 4, and n - 1 steps from 1 to 9,999 that rise
+pub valid-single : (x : Tariff) → validTariff x ≡ true → x .kind ≡ 1
+    → (1 ≤ x .n) × (x .n ≤ 4) × (within (x .steps) (x .n - 1) 1 9999 ≡ true) × (rising (x .steps) (x .n - 1) ≡ true)
+unfolding validKind singleRegister
+valid-single x v k =
+    let e : validKind x ≡ true = valid-kind x v in
+    let s : singleRegister x ≡ true = rw k at e in
+    let steps : Bool = within (x .steps) (x .n - 1) 1 9999 && rising (x .steps) (x .n - 1) && zeroFrom (x .rates) (x .n) in
+    let h = three (leb 1 (x .n)) (leb (x .n) 4) (steps && zeroFrom (x .steps) (x .n - 1)) s in
+    let w = three (within (x .steps) (x .n - 1) 1 9999) (rising (x .steps) (x .n - 1)) (zeroFrom (x .rates) (x .n)) (and-left steps (zeroFrom (x .steps) (x .n - 1)) (h .2)) in
+    (leb-true 1 (x .n) (h .0), leb-true (x .n) 4 (h .1), w .0, w .1)
+
+-- kind 2: two rates
+pub valid-economy7 : (x : Tariff) → validTariff x ≡ true → x .kind ≡ 2 → x .n ≡ 2
+unfolding validKind economy7
+valid-economy7 x v k =
+    let e : validKind x ≡ true = valid-kind x v in
+    let s : economy7 x ≡ true = rw k at e in
+    eqb-true (x .n) 2 (three (eqb (x .n) 2) (zeroFrom (x .rates) 2) (zeroFrom (x .steps) 0) s .0)
+
+-- kind 3: n from 2 to 4, and n shares whose sum is 100
+pub valid-multi : (x : Tariff) → validTariff x ≡ true → x .kind ≡ 3 → (2 ≤ x .n) × (x .n ≤ 4) × (sum (take (x .n) (x .steps)) ≡ 100)
+unfolding validKind multiRegister
+valid-multi x v k =
+    let e : validKind x ≡ true = valid-kind x v in
+    let s : multiRegister x ≡ true = rw k at e in
+    let steps : Bool = within (x .steps) (x .n) 0 100 && eqb (sum (take (x .n) (x .steps))) 100 && zeroFrom (x .rates) (x .n) in
+    let h = three (leb 2 (x .n)) (leb (x .n) 4) (steps && zeroFrom (x .steps) (x .n)) s in
+    let w = three (within (x .steps) (x .n) 0 100) (eqb (sum (take (x .n) (x .steps))) 100) (zeroFrom (x .rates) (x .n)) (and-left steps (zeroFrom (x .steps) (x .n)) (h .2)) in
+    (leb-true 2 (x .n) (h .0), leb-true (x .n) 4 (h .1), eqb-true (sum (take (x .n) (x .steps))) 100 (w .1))
+
+-- of each kind, n is from 1 to 4
+pub valid-n : (x : Tariff) → validTariff x ≡ true → (1 ≤ x .n) × (x .n ≤ 4)
+valid-n x v =
+    by-kind x v
+    (λ k. (valid-single x v k .0, valid-single x v k .1))
+    (λ k. (omega (arith, valid-economy7 x v k), omega (arith, valid-economy7 x v k)))
+    (λ k. (omega (arith, valid-multi x v k .0), valid-multi x v k .1))

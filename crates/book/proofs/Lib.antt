@@ -1,3 +1,3 @@
 pub mod Places
-pub mod Accepted
+pub mod Found
 pub mod Reached

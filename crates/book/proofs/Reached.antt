@@ -20,7 +20,7 @@ use Rattle.book.specs.Checks.{outside, answer, complies}
 use Rattle.book.specs.Book.{empty, stored, numbers, withState, fresh, placeOf, heldIn, held, isOpen, sheetIf, sheetIn, bookReadings, withPlace, openIf, stateUnder, under, changed, step, bookAfter, answersOf, Reachable}
 use Rattle.book.specs.Sound.{tariffIn, HoldsAs, Holds, Sound}
 use Rattle.book.proofs.Places.{never, inside, at-set, length-setPlace, at-map, fresh-place, record-valid}
-use Rattle.book.proofs.Accepted.{set-accepted, put-accepted, close-accepted, drop-accepted, open-accepted}
+use Rattle.book.proofs.Found.{set-accepted, put-accepted, close-accepted, drop-accepted, open-accepted}
 
 -- a place that holds a record holds it in each of the two states
 abbrev HoldsRecord : State → Place → Type 0

@@ -2,3 +2,4 @@ pub mod Calls
 pub mod Checks
 pub mod Book
 pub mod Sound
+pub mod Promises

@@ -1,5 +1,21 @@
+// The tariff book: 32 places and a sheet in force; PUT, CLOSE and DROP; and the checks that every call opens.
+// Promise: each call answers and leaves what `step` of specs/Book.antt says, on refused input too. The book goes in by value and
+// comes back. PUT, CLOSE and DROP require nothing. What the layer above may use: the types, the checks, `refused`, `accepted`,
+// `step` and `Reachable` of specs/Book.antt, `Does` of specs/Promises.antt, and proofs/Reached.antt, what holds of every
+// reachable book.
+ghost use mathlib.Core.Path.{_≡_};
+ghost use Prim.Native.Nat.{suc, _≤_, _<_};
+ghost use lib.ListN.{length, replicate};
+ghost use Rattle.refusal.specs.Checks.{unless};
+ghost use Rattle.book.specs.Calls.{PUT, CLOSE, DROP};
+ghost use Rattle.book.specs.Checks.{codeCheck};
+ghost use Rattle.book.specs.Book.{empty, fresh, stored, withState, withPlace};
+ghost use Rattle.book.specs.Sound.{tariffIn};
+ghost use Rattle.book.specs.Promises.{emptyCheck, openCheck, closedCheck, refusalOf, Does};
 use benchmark::Benchmarks;
 use calendar::Period;
+use refusal::Check;
+use tariff::Tariff;
 
 // A place holds nothing, a draft or an open tariff.
 pub enum State {
@@ -27,4 +43,258 @@ pub struct Book {
     pub period: Period,
     pub benchmarks: Benchmarks,
     pub places: [Place; 32],
+}
+
+// An answer: accepted; opened, with the number of cells; refused, with its number; or refused by 11, with region, method, the
+// number of months that stand beside it, and the excess.
+pub enum Reply {
+    Accepted,
+    Opened(u32),
+    Refused(u32),
+    Over(u32, u32, u32, u64),
+}
+
+// A call's answer, the months of answer 11, and the book after the call.
+pub struct Done {
+    pub reply: Reply,
+    pub months: [u32; 12],
+    pub book: Book,
+}
+
+// A place that holds nothing.
+fn empty_place() -> Place
+    ensures { λ r. ⌜ r ≡ empty ⌝ }
+{
+    Place {
+        state: State::Empty,
+        kind: 0,
+        n: 0,
+        standing: 0,
+        regions: 0,
+        methods: 0,
+        rates: [0; 4],
+        steps: [0; 4],
+    }
+}
+
+// A fresh book has no sheet and all places empty.
+pub fn fresh_book() -> Book
+    ensures { λ r. ⌜ r ≡ fresh ⌝ }
+{
+    Book {
+        loaded: false,
+        fields: [0; 95],
+        period: Period {
+            year: 0,
+            month: 0,
+            months: 0,
+        },
+        benchmarks: Benchmarks {
+            charges: [0; 112],
+            levels: [0; 2],
+            months: 0,
+            days: 0,
+        },
+        places: [empty_place(); 32],
+    }
+}
+
+// 6: code outside 1 to 32.
+pub fn code_check(code: u32) -> Check
+    ensures { λ r. ⌜ r ≡ codeCheck code ⌝ }
+{
+    if code < 1 {
+        return Check::Refuse(6);
+    }
+    if 32 < code {
+        return Check::Refuse(6);
+    }
+    Check::Pass
+}
+
+// 9: the place is empty.
+pub fn empty_check(p: Place) -> Check
+    ensures { λ r. ⌜ r ≡ emptyCheck (p .state) ⌝ }
+{
+    let state = p.state;
+    match state {
+        State::Empty => Check::Refuse(9),
+        State::Draft => Check::Pass,
+        State::Open => Check::Pass,
+    }
+}
+
+// 7: the place is open.
+pub fn open_check(p: Place) -> Check
+    ensures { λ r. ⌜ r ≡ openCheck (p .state) ⌝ }
+{
+    let state = p.state;
+    match state {
+        State::Empty => Check::Pass,
+        State::Draft => Check::Pass,
+        State::Open => Check::Refuse(7),
+    }
+}
+
+// 12: not open.
+fn closed_check(p: Place) -> Check
+    ensures { λ r. ⌜ r ≡ closedCheck (p .state) ⌝ }
+{
+    let state = p.state;
+    match state {
+        State::Empty => Check::Refuse(12),
+        State::Draft => Check::Refuse(12),
+        State::Open => Check::Pass,
+    }
+}
+
+// The answer of a check that refuses, with the book as it was.
+pub fn refused(b: Book, check: Check) -> Done
+    ensures { λ r. ⌜ (r .reply ≡ refusalOf check) × (r .months ≡ replicate 12 0) × (r .book ≡ b) ⌝ }
+{
+    let reply = match check {
+        Check::Pass => Reply::Accepted,
+        Check::Refuse(n) => Reply::Refused(n),
+    };
+    Done {
+        reply,
+        months: [0; 12],
+        book: b,
+    }
+}
+
+// A call that is accepted and leaves this book.
+pub fn accepted(b: Book) -> Done
+    ensures { λ r. ⌜ (r .reply ≡ Reply.Accepted) × (r .months ≡ replicate 12 0) × (r .book ≡ b) ⌝ }
+{
+    Done {
+        reply: Reply::Accepted,
+        months: [0; 12],
+        book: b,
+    }
+}
+
+// A place in another state.
+pub fn in_state(p: Place, state: State) -> Place
+    ensures { λ r. ⌜ r ≡ withState state p ⌝ }
+{
+    let rates = p.rates;
+    let steps = p.steps;
+    Place {
+        state,
+        kind: p.kind,
+        n: p.n,
+        standing: p.standing,
+        regions: p.regions,
+        methods: p.methods,
+        rates,
+        steps,
+    }
+}
+
+// The tariff of a place.
+pub fn tariff_in(p: Place) -> Tariff
+    ensures { λ r. ⌜ r ≡ tariffIn p ⌝ }
+{
+    let rates = p.rates;
+    let steps = p.steps;
+    Tariff {
+        kind: p.kind,
+        n: p.n,
+        standing: p.standing,
+        regions: p.regions,
+        methods: p.methods,
+        rates,
+        steps,
+    }
+}
+
+// The book with another place at an index.
+pub fn with_place(b: Book, at: usize, p: Place) -> Book
+    requires { ⌜ at < 32 ⌝ }
+    ensures { λ r. ⌜ r ≡ withPlace b (suc at) p ⌝ }
+{
+    let mut next = b;
+    next.places[at] = p;
+    next
+}
+
+// A record of 13 numbers in a place, as a draft.
+fn draft_of(x: &[u32]) -> Place
+    requires { ⌜ length (now x) ≡ 13 ⌝ }
+    ensures { λ r. ⌜ r ≡ stored State.Draft (now (x .entry)) ⌝ }
+{
+    Place {
+        state: State::Draft,
+        kind: x[0],
+        n: x[1],
+        standing: x[2],
+        regions: x[3],
+        methods: x[4],
+        rates: [x[5], x[6], x[7], x[8]],
+        steps: [x[9], x[10], x[11], x[12]],
+    }
+}
+
+// PUT (code, tariff). 6, 7, 8. Else the place holds it as a draft, over any draft.
+pub fn put(b: Book, code: u32, x: &[u32]) -> Done
+    ensures { λ r. ⌜ Does b (PUT code (now (x .entry))) r ⌝ }
+{
+    let inside = code_check(code);
+    let Check::Pass = inside else {
+        return refused(b, inside);
+    };
+    let at = (code - 1) as usize;
+    let p = b.places[at];
+    let shut = open_check(p);
+    let Check::Pass = shut else {
+        return refused(b, shut);
+    };
+    let record = tariff::check(x);
+    let Check::Pass = record else {
+        return refused(b, record);
+    };
+    accepted(with_place(b, at, draft_of(x)))
+}
+
+// CLOSE (code). 6, 9, 12. Else a draft again.
+pub fn close(b: Book, code: u32) -> Done
+    ensures { λ r. ⌜ Does b (CLOSE code) r ⌝ }
+{
+    let inside = code_check(code);
+    let Check::Pass = inside else {
+        return refused(b, inside);
+    };
+    let at = (code - 1) as usize;
+    let p = b.places[at];
+    let filled = empty_check(p);
+    let Check::Pass = filled else {
+        return refused(b, filled);
+    };
+    let opened = closed_check(p);
+    let Check::Pass = opened else {
+        return refused(b, opened);
+    };
+    accepted(with_place(b, at, in_state(p, State::Draft)))
+}
+
+// DROP (code). 6, 9, 7. Else empty.
+pub fn drop(b: Book, code: u32) -> Done
+    ensures { λ r. ⌜ Does b (DROP code) r ⌝ }
+{
+    let inside = code_check(code);
+    let Check::Pass = inside else {
+        return refused(b, inside);
+    };
+    let at = (code - 1) as usize;
+    let p = b.places[at];
+    let filled = empty_check(p);
+    let Check::Pass = filled else {
+        return refused(b, filled);
+    };
+    let shut = open_check(p);
+    let Check::Pass = shut else {
+        return refused(b, shut);
+    };
+    accepted(with_place(b, at, empty_place()))
 }

@@ -31,7 +31,7 @@ use Rattle.book.specs.Calls.{Sheet, Record, Call, SET, PUT, OPEN, CLOSE, DROP, 
 use Rattle.book.specs.Checks.{figuresOf, outside, verdictAnswer, openAnswer, answer, isNone, complies}
 use Rattle.book.specs.Book.{empty, stored, numbers, withState, fresh, placeOf, held, isOpen, sheetIf, sheetIn, bookReadings, withPlace, under, changed, after, step, bookAfter, answersOf}
 use Rattle.book.proofs.Places.{never, inside, at-set, length-setPlace, at-map, held-under, open-under, fresh-place, held-numbers, held-inside, record-length, listed}
-use Rattle.book.proofs.Accepted.{put-accepted, close-accepted, drop-accepted, Opens, open-accepted}
+use Rattle.book.proofs.Found.{put-accepted, close-accepted, drop-accepted, Opens, open-accepted}
 -- one call more at the end of a list: the book and the answers
 pub use Rattle.book.proofs.Reached.{book-append, answers-append}
 use Rattle.history.specs.History.{sheetOf, recordOf, openOf, readings, noted, logAfter, acceptedOf, answersAfter}

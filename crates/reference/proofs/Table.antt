@@ -19,7 +19,7 @@ use Rattle.tariff.specs.Tariff.{tariffOf, recordCheck, validTariff, validKind, 
 use Rattle.charge.specs.Charge.{arrangement, tierCharge, weighted, monthCharge, charge}
 use Rattle.charge.specs.Tiers.{Rising, hundredths, ends}
 use Rattle.cap.specs.Cap.{maximum, charged, capped, excess}
-use Rattle.cap.proofs.Scan.{scan}
+use Rattle.cap.specs.Judged.{scan}
 use Rattle.verdict.specs.Cells.{Cell, bit, offered, terms, cellCount, Verdict, opens, over, verdict}
 use Rattle.verdict.proofs.Scanned.{scannedBelow, scannedVerdict, verdict-scanned}
 use Rattle.reference.specs.SheetS.{times, sheetS, periodS, flat, tiered, economySeven}

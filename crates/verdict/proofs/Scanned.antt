@@ -14,7 +14,8 @@ use Rattle.charge.specs.Tiers.{Rising, hundredths, ends}
 use Rattle.cap.specs.declared.Terms.{Terms}
 use Rattle.cap.specs.Cap.{charged, capped, excess, worstMonth, worstMonths, Exceeds}
 use Rattle.cap.specs.Decided.{monthCharged, monthCapped, exceeds?, exceeds-if, only-if, worst-months}
-use Rattle.cap.proofs.Scan.{scan, corners, scan-is-worst}
+use Rattle.cap.specs.Judged.{scan, corners}
+use Rattle.cap.proofs.Scan.{scan-is-worst}
 use Rattle.cap.proofs.Worst.{exceeds-at-worst}
 use Rattle.verdict.specs.Cells.{Cell, offered, terms, cellAt, decided, exceedsAt, firstOf, firstBelow, firstOver, cellCount, Verdict, opens, over, verdictAt, verdict}
 use Rattle.verdict.proofs.Meaning.{yes-decided, no-decided, not-both}

@@ -1,15 +1,19 @@
+-- `verdict::arrangement_of` meets its contract.
+-- Assumes nothing.
+use mathlib.Core.Path.{sym}
+use native.Mathlib.Omega.{arith}
+use borrow.Author.Tests.{eq-eqb, ne-eqb}
+use Rattle.charge.specs.Charge.{arrangement}
 use Rattle.verdict.proofs.arrangement_of.Statement.{statement}
 use Rattle.verdict.proofs.arrangement_of.Tie as tie
-use Rattle.verdict.proofs.arrangement_of.Reads as reads
-use Rattle.verdict.proofs.arrangement_of.Lts as lts
 
--- src/lib.rt:46:1
 returns : tie.Need-returns
-returns c = ?
+unfolding arrangement
+returns c = (sym (simp (eq-eqb _ _ (c .if1 .taken))), omega arith)
 
--- src/lib.rt:46:1
 returns-2 : tie.Need-returns-2
-returns-2 c = ?
+unfolding arrangement
+returns-2 c = (sym (simp (ne-eqb _ _ (c .if1 .left))), omega arith)
 
 pub arrangement-of-spec : {M : Type 1} → statement M
 arrangement-of-spec = tie.close (tie.spec returns returns-2)

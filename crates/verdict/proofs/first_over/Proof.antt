@@ -1,140 +1,176 @@
+-- `verdict::first_over` meets its contract. The invariant of each loop: no cell before the one at hand exceeds.
+-- Assumes nothing.
+use mathlib.Core.Path.{_≡_, refl, sym, _∙_, subst}
+use mathlib.Core.Logic.{⊎-elim}
+use mathlib.Core.Option.{none}
+use Prim.Native.Nat.{ℕ, _+_, _-_, _*_, _≤_}
+use native.Mathlib.Omega.{arith}
+use Rattle.cap.specs.Judged.{Cornered, Fits, Judges}
+use Rattle.cap.specs.declared.Terms.{Terms}
+use Rattle.verdict.specs.Cells.{terms, firstBelow}
+use Rattle.verdict.specs.Found.{cell}
+use Rattle.verdict.proofs.Walk.{terms-are, terms-fit, not-method, within-cell, passed, region-starts, region-ends, region-passed, walked, over-cell}
+use borrow.Author.Needs.{needs}
 use Rattle.verdict.proofs.first_over.Statement.{statement}
 use Rattle.verdict.proofs.first_over.Tie as tie
-use Rattle.verdict.proofs.first_over.Reads as reads
-use Rattle.verdict.proofs.first_over.Lts as lts
-use Rattle.cap.proofs.corners_of.Reads as corners-of-reads
-use Rattle.cap.proofs.judge.Reads as judge-reads
-use Rattle.verdict.proofs.arrangement_of.Reads as arrangement-of-reads
-use Rattle.verdict.proofs.has.Reads as has-reads
-use Rattle.verdict.proofs.terms_at.Reads as terms-at-reads
-use Rattle.verdict.proofs.wide.Reads as wide-reads
 
 abbrev Inv-loop : tie.InvT-loop
-Inv-loop b x charges arrangement m k region method₀ method = ?
+Inv-loop b x charges arrangement m k region method₀ method = (method ≤ 2) × (firstBelow b x (2 * region + method) ≡ none)
 
 abbrev μ-loop : tie.MeasureT-loop
-μ-loop b x charges arrangement m k region method₀ method = ?
+μ-loop b x charges arrangement m k region method₀ method = 2 - method
 
 abbrev Inv-walk : tie.InvT-walk
-Inv-walk b x charges arrangement m k region₀ region = ?
+Inv-walk b x charges arrangement m k region₀ region = (region ≤ 14) × (firstBelow b x (2 * region) ≡ none)
 
 abbrev μ-walk : tie.MeasureT-walk
-μ-walk b x charges arrangement m k region₀ region = ?
+μ-walk b x charges arrangement m k region₀ region = 14 - region
 
--- src/lib.rt:80:9
+-- the terms that were read are those of the cell at hand
+terms-of : (c : tie.After-terms-at Inv-loop μ-loop Inv-walk μ-walk)
+    → c .terms-at .result ≡ terms (c .before .before .before .before .before .before .before .before .before .before .before .before .before .before .before .args .b) (c .before .before .before .before .before .before .before .before .before .before .before .before .before .before .before .args .x) (cell (c .before .before .before .before .before .before .before .before .before .walk .region) (c .before .before .before .before .before .loop .method))
+terms-of c =
+    let st = c .before .before .before .before .before .before .before .before .before .before .before .before .before .before .before in
+    let a = c .before .before .before .before .before .before .before .before .before .before .before .before .arrangement-of in
+    let t = c .terms-at .ensures in
+    terms-are (st .args .b) (st .args .x) (c .before .before .before .before .before .before .before .before .before .walk .region) (c .before .before .before .before .before .loop .method) (a .result) (c .terms-at .result) (a .ensures .0) (t .0) (t .1) (t .2) (t .3) (t .4)
+
+-- so the judgement is of that cell
+judged-cell : (c : tie.After-judge Inv-loop μ-loop Inv-walk μ-walk)
+    → Judges (terms (c .before .before .before .before .before .before .before .before .before .before .before .before .before .before .before .before .args .b) (c .before .before .before .before .before .before .before .before .before .before .before .before .before .before .before .before .args .x) (cell (c .before .before .before .before .before .before .before .before .before .before .walk .region) (c .before .before .before .before .before .before .loop .method))) (c .before .before .before .before .before .before .before .before .before .before .before .before .before .before .before .before .args .x) (c .judge .result)
+judged-cell c = subst (λ (e : Terms). Judges e (c .before .before .before .before .before .before .before .before .before .before .before .before .before .before .before .before .args .x) (c .judge .result)) (terms-of (c .before)) (c .judge .ensures)
+
 arrangement-of-requires : tie.Need-arrangement-of-requires Inv-loop μ-loop Inv-walk μ-walk
-arrangement-of-requires c κs = ?
+arrangement-of-requires c κs = search needs
 
--- src/lib.rt:81:13
 mul-m : tie.Need-mul-m Inv-loop μ-loop Inv-walk μ-walk
-mul-m c = ?
+mul-m c = search needs
 
--- src/lib.rt:81:13
 array-read-m : tie.Need-array-read-m Inv-loop μ-loop Inv-walk μ-walk
-array-read-m c = ?
+array-read-m c = search needs
 
--- src/lib.rt:82:32
 wide-requires : tie.Need-wide-requires Inv-loop μ-loop Inv-walk μ-walk
-wide-requires c κs = ?
+wide-requires c κs = search needs
 
--- src/lib.rt:82:9
 corners-of-requires : tie.Need-corners-of-requires Inv-loop μ-loop Inv-walk μ-walk
-corners-of-requires c κs = ?
+corners-of-requires c κs = let st = c .before .before .before .before in (st .pre .1, rw (c .wide .ensures) (st .pre .0 .level-most (c .before .arrangement-of .result)))
 
--- src/lib.rt:84:9
 walk-holds : tie.Need-walk-holds Inv-loop μ-loop Inv-walk μ-walk
-walk-holds c = ?
+unfolding firstBelow
+walk-holds c = (omega arith, refl)
 
--- src/lib.rt:88:12
 has-requires : tie.Need-has-requires Inv-loop μ-loop Inv-walk μ-walk
-has-requires c κs = ?
+has-requires c κs = search needs
 
--- src/lib.rt:89:13
 loop-holds : tie.Need-loop-holds Inv-loop μ-loop Inv-walk μ-walk
-loop-holds c = ?
+loop-holds c = let w = c .before .before .before in let st = w .before .before .before .before .before .before in (omega arith, region-starts (st .args .b) (st .args .x) (w .walk .region) (w .walk .inv .1))
 
--- src/lib.rt:90:20
 has-requires-2 : tie.Need-has-requires-2 Inv-loop μ-loop Inv-walk μ-walk
-has-requires-2 c κs = ?
+has-requires-2 c κs = search needs
 
--- src/lib.rt:91:35
 cast-at : tie.Need-cast-at Inv-loop μ-loop Inv-walk μ-walk
-cast-at c = ?
+cast-at c = search needs
 
--- src/lib.rt:91:30
 mul-at : tie.Need-mul-at Inv-loop μ-loop Inv-walk μ-walk
-mul-at c = ?
+mul-at c = search needs
 
--- src/lib.rt:91:54
 mul-at-2 : tie.Need-mul-at-2 Inv-loop μ-loop Inv-walk μ-walk
-mul-at-2 c = ?
+mul-at-2 c = search needs
 
--- src/lib.rt:91:30
 add-at : tie.Need-add-at Inv-loop μ-loop Inv-walk μ-walk
-add-at c = ?
+add-at c = search needs
 
--- src/lib.rt:91:77
 cast-at-2 : tie.Need-cast-at-2 Inv-loop μ-loop Inv-walk μ-walk
-cast-at-2 c = ?
+cast-at-2 c = search needs
 
--- src/lib.rt:91:72
 mul-at-3 : tie.Need-mul-at-3 Inv-loop μ-loop Inv-walk μ-walk
-mul-at-3 c = ?
+mul-at-3 c = search needs
 
--- src/lib.rt:91:30
 add-at-2 : tie.Need-add-at-2 Inv-loop μ-loop Inv-walk μ-walk
-add-at-2 c = ?
+add-at-2 c = search needs
 
--- src/lib.rt:92:38
 slice-aggregate-terms-at : tie.Need-slice-aggregate-terms-at Inv-loop μ-loop Inv-walk μ-walk
-slice-aggregate-terms-at c = ?
+slice-aggregate-terms-at c = search needs
 
--- src/lib.rt:92:25
 terms-at-requires : tie.Need-terms-at-requires Inv-loop μ-loop Inv-walk μ-walk
-terms-at-requires c κs = ?
+terms-at-requires c κs = search needs
 
--- src/lib.rt:93:25
 judge-requires : tie.Need-judge-requires Inv-loop μ-loop Inv-walk μ-walk
-judge-requires c κs = ?
+judge-requires c κs =
+    let st = c .before .before .before .before .before .before .before .before .before .before .before .before .before .before .before in
+    let w = c .before .before .before .before .before .before .before .before .before .walk in
+    let co = c .before .before .before .before .before .before .before .before .before .before in (
+      st .pre .1,
+      subst (λ (n : ℕ). Cornered (st .args .x) n (co .corners-of .result)) (co .before .wide .ensures ∙ sym (c .terms-at .ensures .2)) (co .corners-of .ensures),
+      subst Fits (sym (terms-of c)) (terms-fit (st .args .b) (st .args .x) (st .pre .0) (w .region) (c .before .before .before .before .before .loop .method) (c .before .before .before .before .before .before .before .before .if1 .left) (c .before .before .before .before .loop-test .taken)),
+    )
 
--- src/lib.rt:94:41
 enum-known-judged : tie.Need-enum-known-judged Inv-loop μ-loop Inv-walk μ-walk
-enum-known-judged c = ?
+enum-known-judged c = search needs
 
 enum-told : tie.Need-enum-told Inv-loop μ-loop Inv-walk μ-walk
-enum-told c = ?
+enum-told c = search needs
 
--- src/lib.rt:89:17
 add-method : tie.Need-add-method Inv-loop μ-loop Inv-walk μ-walk
-add-method c = ?
+add-method c = search needs
 
--- src/lib.rt:89:13
 loop-less : tie.Need-loop-less Inv-loop μ-loop Inv-walk μ-walk
-loop-less c = ?
+loop-less c = search needs
 
--- src/lib.rt:89:13
 loop-again : tie.Need-loop-again Inv-loop μ-loop Inv-walk μ-walk
-loop-again c = ?
+loop-again c =
+    let l = c .before .before .before in
+    let w = c .before .before .before .before .before .before .before in
+    let st = w .before .before .before .before .before .before in
+    let b = st .args .b in
+    let x = st .args .x in
+    let p = c .before .before .loop-test .taken in (
+      omega arith,
+      passed b x (w .walk .region) (l .loop .method) (l .loop .inv .1)
+          (⊎-elim
+          (λ v.
+          within-cell b x (w .walk .region) (l .loop .method) p
+          (subst (Judges (terms b x (cell (w .walk .region) (l .loop .method))) x) (v .5 .given .1)
+          (judged-cell (record { before = record { before = record { before = record { before = c .before; if3 = v .0 }; charges2 = v .1 }; terms-at = v .2 }; judge = v .3 }))))
+          (λ v. not-method b x (w .walk .region) (l .loop .method) p (sym (c .before .has2 .ensures) ∙ v .left))
+          (c .if3 .came)),
+    )
 
--- src/lib.rt:100:9
 add-region : tie.Need-add-region Inv-loop μ-loop Inv-walk μ-walk
-add-region c = ?
+add-region c = search needs
 
--- src/lib.rt:84:9
 walk-less : tie.Need-walk-less Inv-loop μ-loop Inv-walk μ-walk
-walk-less c = ?
+walk-less c = search needs
 
--- src/lib.rt:84:9
 walk-again : tie.Need-walk-again Inv-loop μ-loop Inv-walk μ-walk
-walk-again c = ?
+walk-again c =
+    let w = c .before .before .before in
+    let st = w .before .before .before .before .before .before in
+    let b = st .args .b in
+    let x = st .args .x in (
+      omega (arith, c .before .before .if1 .left),
+      ⊎-elim
+          (λ v. region-ends b x (w .walk .region) (v .1 .method) (v .1 .inv .0) (v .2 .left) (v .1 .inv .1))
+          (λ v. region-passed b x (w .walk .region) (sym (c .before .has .ensures) ∙ v .left) (w .walk .inv .1))
+          (c .if2 .came),
+    )
 
--- src/lib.rt:74:1
 returns : tie.Need-returns Inv-loop μ-loop Inv-walk μ-walk
-returns c = ?
+returns c = let w = c .before in let st = w .before .before .before .before .before .before in walked (st .args .b) (st .args .x) (w .walk .region) (w .walk .inv .0) (c .if1 .taken) (w .walk .inv .1)
 
--- src/lib.rt:74:1
 returns-2 : tie.Need-returns-2 Inv-loop μ-loop Inv-walk μ-walk
-returns-2 c = ?
+returns-2 c =
+    let j = c .before .before .before in
+    let l = j .before .before .before .before .before .before in
+    let w = j .before .before .before .before .before .before .before .before .before .before in
+    let st = w .before .before .before .before .before .before in
+    let b = st .args .b in
+    let x = st .args .x in
+    over-cell b x (w .walk .region) (l .loop .method) _ _ (j .before .before .before .before .before .before .before .before .before .if1 .left) (j .before .before .before .before .before .loop-test .taken)
+    (sym (j .before .before .before .before .before .before .before .before .has .ensures) ∙ j .before .before .before .before .before .before .before .if2 .taken)
+    (sym (j .before .before .before .before .has2 .ensures) ∙ j .before .before .before .if3 .taken)
+    (l .loop .inv .1)
+    (subst (Judges (terms b x (cell (w .walk .region) (l .loop .method))) x) (c .before .judged .given .1) (judged-cell j))
 
 pub first-over-spec : {M : Type 1} → statement M
 first-over-spec =

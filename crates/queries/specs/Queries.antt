@@ -1,0 +1,102 @@
+-- BENCHMARK, MAXIMUM and QUOTE of document 01.
+-- Assumes nothing.
+use mathlib.Core.Bool.{Bool, true, false, _&&_}
+use mathlib.Core.List.{List}
+use mathlib.Core.Option.{Option, none, some}
+use Prim.Native.Nat.{ℕ, _+_, _*_}
+use lib.Dec.{leb, ltb, eqb}
+use lib.ListN.{length, getD}
+use Rattle.laws.specs.Notions.{every}
+use Rattle.calendar.specs.Calendar.{periodDays}
+use Rattle.sheet.specs.Sheet.{field}
+use Rattle.refusal.specs.declared.Check.{Check}
+use Rattle.refusal.specs.declared.Check.the-variants.{Pass, Refuse}
+use Rattle.benchmark.specs.declared.Benchmarks.{Benchmarks}
+use Rattle.benchmark.specs.Benchmark.{benchmark, place}
+use Rattle.tariff.specs.declared.Tariff.{Tariff}
+use Rattle.tariff.specs.Tariff.{tariffOf}
+use Rattle.cap.specs.declared.Terms.{Terms}
+use Rattle.cap.specs.Cap.{maximum, charged, capped, monthMost}
+use Rattle.verdict.specs.Cells.{Cell, offered, terms}
+use Rattle.verdict.specs.Found.{cell}
+use Rattle.book.specs.declared.Book.{Book}
+use Rattle.queries.specs.declared.Told.{Told}
+use Rattle.queries.specs.declared.Told.the-variants.{Refused, Figure, Figures}
+use Rattle.book.specs.Calls.{Sheet, Record}
+use Rattle.book.specs.Checks.{figuresOf, outside}
+use Rattle.book.specs.Book.{bookReadings}
+
+-- "13: an argument outside its range": region 0 to 13; arrangement, method and level 0 or 1
+abbrev pub inRanges : ℕ → ℕ → ℕ → Bool
+inRanges region arrangement method = ltb region 14 && ltb arrangement 2 && ltb method 2
+
+-- BENCHMARK (region, arrangement, method, level). 13, 10.
+abbrev pub benchmarkTold : (allowed : Bool) (sheet : Option Sheet) → ℕ → ℕ → ℕ → ℕ → Told
+benchmarkTold false sheet r a p l = Refused 13
+benchmarkTold true none r a p l = Refused 10
+benchmarkTold true (some s) r a p l = Figure (benchmark (s .fields) r a p l)
+
+unfoldable pub benchmarkOf : Book → ℕ → ℕ → ℕ → ℕ → Told
+benchmarkOf b r a p l = benchmarkTold (inRanges r a p && ltb l 2) (bookReadings b .sheet) r a p l
+
+-- MAXIMUM (region, arrangement, method, total 0 to 120,000): "the same two; gives the whole number above and 12 × m"
+abbrev pub termsOf : Sheet → ℕ → ℕ → ℕ → Terms
+termsOf s r a p =
+    record {
+      lower = benchmark (s .fields) r a p 0;
+      upper = benchmark (s .fields) r a p 1;
+      m = field (s .fields) (93 + a);
+      months = s .period .months;
+      days = periodDays (s .period);
+    }
+
+abbrev pub maximumTold : (allowed : Bool) (sheet : Option Sheet) → ℕ → ℕ → ℕ → ℕ → Told
+maximumTold false sheet r a p total = Refused 13
+maximumTold true none r a p total = Refused 10
+maximumTold true (some s) r a p total = Figures (maximum (termsOf s r a p) total) (12 * field (s .fields) (93 + a))
+
+unfoldable pub maximumOf : Book → ℕ → ℕ → ℕ → ℕ → Told
+maximumOf b r a p total = maximumTold (inRanges r a p && leb total 120000) (bookReadings b .sheet) r a p total
+
+-- "13: region or method not offered, the list not t long, or a month above 10,000"
+unfoldable pub cellAllowed : Tariff → ℕ → ℕ → Bool
+cellAllowed x region method = ltb region 14 && ltb method 2 && offered x (cell region method)
+
+unfoldable pub monthsAllowed : ℕ → List ℕ → Bool
+monthsAllowed t months = eqb (length months) t && every (length months) (λ i. leb (getD months i 0) monthMost)
+
+abbrev pub quotable : Sheet → Tariff → ℕ → ℕ → List ℕ → Bool
+quotable s x region method months = cellAllowed x region method && monthsAllowed (s .period .months) months
+
+-- "Gives 100 × 12 × m times the charge and times the maximum."
+abbrev pub quoted : (allowed : Bool) → Sheet → Tariff → ℕ → ℕ → List ℕ → Told
+quoted false s x region method months = Refused 13
+quoted true s x region method months =
+    let e = terms (figuresOf s) x (cell region method) in Figures (charged e x months) (capped e months)
+
+-- QUOTE (code, region, method, months). 6, 9, 10, 13. "Drafts can be quoted."
+abbrev pub quoteTold : (outside : Bool) (tariff : Option Record) (sheet : Option Sheet) → ℕ → ℕ → List ℕ → Told
+quoteTold true tariff sheet region method months = Refused 6
+quoteTold false none sheet region method months = Refused 9
+quoteTold false (some x) none region method months = Refused 10
+quoteTold false (some x) (some s) region method months =
+    quoted (quotable s (tariffOf x) region method months) s (tariffOf x) region method months
+
+unfoldable pub quoteOf : Book → ℕ → ℕ → ℕ → List ℕ → Told
+quoteOf b code region method months =
+    quoteTold (outside code) (bookReadings b .tariff code) (bookReadings b .sheet) region method months
+
+-- how the code reads them: a check's refusal, and the numbers of a cell from the figures in the book
+abbrev pub refusalTold : Check → Told
+refusalTold Pass = Refused 0
+refusalTold (Refuse n) = Refused n
+
+unfoldable pub termsIn : Benchmarks → ℕ → ℕ → ℕ → Terms
+termsIn f r a p =
+    record {
+      lower = getD (f .charges) (place r a p 0) 0;
+      upper = getD (f .charges) (place r a p 1) 0;
+      m = getD (f .levels) a 0;
+      months = f .months;
+      days = f .days;
+    }

@@ -1,0 +1,197 @@
+// BENCHMARK, MAXIMUM and QUOTE: what the book tells and leaves as it is.
+// Promise: each answers what specs/Queries.antt says, on refused input too. They require document 01's own sentence on the book,
+// `Reachable`, since the figures are read from the book and are those of its sheet.
+ghost use mathlib.Core.Path.{_≡_};
+ghost use mathlib.Core.Bool.{_&&_};
+ghost use Prim.Native.Nat.{_<_};
+ghost use Rattle.refusal.specs.Checks.{unless};
+ghost use Rattle.refusal.specs.declared.Check.the-variants.{Pass};
+ghost use Rattle.benchmark.specs.Lawful.{Lawful};
+ghost use Rattle.cap.specs.Judged.{Fits};
+ghost use Rattle.book.specs.Book.{Reachable};
+ghost use Rattle.queries.specs.Queries.{inRanges, refusalTold, termsIn, cellAllowed, monthsAllowed, benchmarkOf, maximumOf, quoteOf};
+use benchmark::Benchmarks;
+use book::Book;
+use cap::Terms;
+use charge::Kwh;
+use refusal::Check;
+use tariff::Tariff;
+
+// A refusal, with its number; one figure; or two.
+pub enum Told {
+    Refused(u32),
+    Figure(u64),
+    Figures(u64, u64),
+}
+
+fn wide(x: u32) -> u64
+    ensures { λ r. ⌜ r ≡ x ⌝ }
+{
+    x as u64
+}
+
+// The answer of a check that refuses.
+fn refused(check: Check) -> Told
+    ensures { λ r. ⌜ r ≡ refusalTold check ⌝ }
+{
+    match check {
+        Check::Pass => Told::Refused(0),
+        Check::Refuse(n) => Told::Refused(n),
+    }
+}
+
+// 13: an argument outside its range; `last` says whether the fourth one is inside its own.
+fn ranges_check(region: u32, arrangement: u32, method: u32, last: bool) -> Check
+    ensures { λ r. ⌜ r ≡ unless (inRanges region arrangement method && last) 13 Pass ⌝ }
+{
+    if 14 <= region {
+        return Check::Refuse(13);
+    }
+    if 2 <= arrangement {
+        return Check::Refuse(13);
+    }
+    if 2 <= method {
+        return Check::Refuse(13);
+    }
+    if last { Check::Pass } else { Check::Refuse(13) }
+}
+
+// The numbers of a cell, from the figures of the sheet in force.
+fn terms_in(figures: Benchmarks, region: usize, arrangement: usize, method: usize) -> Terms
+    requires { ⌜ Lawful figures × (region < 14) × (arrangement < 2) × (method < 2) ⌝ }
+    ensures { λ r. ⌜ (r ≡ termsIn figures region arrangement method) × Fits r ⌝ }
+{
+    let charges = figures.charges;
+    let levels = figures.levels;
+    let at = 8 * region + 4 * arrangement + 2 * method;
+    Terms {
+        lower: wide(charges[at]),
+        upper: wide(charges[at + 1]),
+        m: wide(levels[arrangement]),
+        months: wide(figures.months),
+        days: figures.days,
+    }
+}
+
+// BENCHMARK (region, arrangement, method, level). 13, 10.
+pub fn benchmark(b: Book, region: u32, arrangement: u32, method: u32, level: u32) -> Told
+    requires { ⌜ Reachable b ⌝ }
+    ensures { λ r. ⌜ r ≡ benchmarkOf b region arrangement method level ⌝ }
+{
+    let ranged = ranges_check(region, arrangement, method, level < 2);
+    let Check::Pass = ranged else {
+        return refused(ranged);
+    };
+    let loaded = book::sheet_check(b.loaded);
+    let Check::Pass = loaded else {
+        return refused(loaded);
+    };
+    let figures = b.benchmarks;
+    let charges = figures.charges;
+    let at = 8 * (region as usize)
+        + 4 * (arrangement as usize)
+        + 2 * (method as usize)
+        + (level as usize);
+    Told::Figure(wide(charges[at]))
+}
+
+// MAXIMUM (region, arrangement, method, total). 13, 10. The whole number and 12 × m.
+pub fn maximum(b: Book, region: u32, arrangement: u32, method: u32, total: u32) -> Told
+    requires { ⌜ Reachable b ⌝ }
+    ensures { λ r. ⌜ r ≡ maximumOf b region arrangement method total ⌝ }
+{
+    let ranged = ranges_check(region, arrangement, method, total <= 120_000);
+    let Check::Pass = ranged else {
+        return refused(ranged);
+    };
+    let loaded = book::sheet_check(b.loaded);
+    let Check::Pass = loaded else {
+        return refused(loaded);
+    };
+    let figures = b.benchmarks;
+    let e = terms_in(
+        figures,
+        region as usize,
+        arrangement as usize,
+        method as usize,
+    );
+    let most = cap::maximum_of(e, Kwh(wide(total)));
+    Told::Figures(most.0, 12 * e.m)
+}
+
+// Whether a tariff is offered in a region by a method.
+fn cell_allowed(x: Tariff, region: u32, method: u32) -> bool
+    ensures { λ r. ⌜ r ≡ cellAllowed x region method ⌝ }
+{
+    if 14 <= region {
+        return false;
+    }
+    if 2 <= method {
+        return false;
+    }
+    verdict::has(x.regions, region) && verdict::has(x.methods, method)
+}
+
+// Whether a list has t months of at most 10,000 kWh.
+fn months_allowed(months: &[u32], t: u32) -> bool
+    ensures { λ r. ⌜ r ≡ monthsAllowed t (now (months .entry)) ⌝ }
+{
+    if months.len() != t as usize {
+        return false;
+    }
+    let mut i: usize = 0;
+    while i < months.len() {
+        if 10_000 < months[i] {
+            return false;
+        }
+        i += 1;
+    }
+    true
+}
+
+// 13: region or method not offered, the list not t long, or a month above 10,000.
+fn quote_check(x: Tariff, region: u32, method: u32, t: u32, months: &[u32]) -> Check
+    ensures { λ r. ⌜ r ≡ unless (cellAllowed x region method && monthsAllowed t (now (months .entry))) 13 Pass ⌝ }
+{
+    if cell_allowed(x, region, method) {
+        if months_allowed(months, t) {
+            return Check::Pass;
+        }
+    }
+    Check::Refuse(13)
+}
+
+// QUOTE (code, region, method, months). 6, 9, 10, 13. 1,200 × m times the charge and times the maximum.
+pub fn quote(b: Book, code: u32, region: u32, method: u32, months: &[u32]) -> Told
+    requires { ⌜ Reachable b ⌝ }
+    ensures { λ r. ⌜ r ≡ quoteOf b code region method (now (months .entry)) ⌝ }
+{
+    let inside = book::code_check(code);
+    let Check::Pass = inside else {
+        return refused(inside);
+    };
+    let at = (code - 1) as usize;
+    let p = b.places[at];
+    let filled = book::empty_check(p);
+    let Check::Pass = filled else {
+        return refused(filled);
+    };
+    let loaded = book::sheet_check(b.loaded);
+    let Check::Pass = loaded else {
+        return refused(loaded);
+    };
+    let figures = b.benchmarks;
+    let x = book::tariff_in(p);
+    let allowed = quote_check(x, region, method, figures.months, months);
+    let Check::Pass = allowed else {
+        return refused(allowed);
+    };
+    let e = terms_in(
+        figures,
+        region as usize,
+        verdict::arrangement_of(x),
+        method as usize,
+    );
+    let sides = cap::sides_of(e, x, months);
+    Told::Figures(sides.charged, sides.capped)
+}

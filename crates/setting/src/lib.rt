@@ -1,0 +1,81 @@
+// SET: the checks of a sheet and its period, and every open tariff judged by it.
+// Promise: `set` answers and leaves what `step` says of SET, on refused input too: the sheet is replaced, and each open tariff that
+// exceeds somewhere becomes a draft. It requires document 01's own sentence on the book, `Reachable`.
+ghost use mathlib.Core.Path.{_≡_};
+ghost use Prim.Native.Nat.{_≤_};
+ghost use lib.ListN.{length};
+ghost use Rattle.benchmark.specs.Lawful.{Lawful};
+ghost use Rattle.book.specs.Calls.{SET};
+ghost use Rattle.book.specs.Book.{Reachable};
+ghost use Rattle.book.specs.Sound.{Holds};
+ghost use Rattle.book.specs.Promises.{Does};
+ghost use Rattle.setting.specs.Setting.{sheetAt, underFigures};
+use benchmark::Benchmarks;
+use book::Book;
+use book::Done;
+use book::Place;
+use book::State;
+use calendar::Period;
+use refusal::Check;
+use verdict::Found;
+
+// A place under the figures of a new sheet: an open tariff that exceeds somewhere becomes a draft.
+fn judged(p: Place, figures: Benchmarks) -> Place
+    requires { ⌜ Lawful figures × Holds p ⌝ }
+    ensures { λ r. ⌜ r ≡ underFigures figures p ⌝ }
+{
+    let state = p.state;
+    match state {
+        State::Empty => p,
+        State::Draft => p,
+        State::Open => {
+            let found = verdict::first_over(figures, book::tariff_in(p));
+            match found {
+                Found::Nowhere => p,
+                Found::Over(_, _, _, _) => book::in_state(p, State::Draft),
+            }
+        }
+    }
+}
+
+// The fields of a lent sheet.
+fn fields_of(fields: &[u32]) -> [u32; 95]
+    requires { ⌜ length (now fields) ≡ 95 ⌝ }
+    ensures { λ r. ⌜ r ≡ now (fields .entry) ⌝ }
+{
+    let mut copy = [0u32; 95];
+    let mut i: usize = 0;
+    while i < 95 {
+        copy[i] = fields[i];
+        i += 1;
+    }
+    copy
+}
+
+// SET (sheet, period). 1 to 5. Else the sheet is replaced and each open tariff that exceeds somewhere becomes a draft.
+pub fn set(b: Book, fields: &[u32], period: Period) -> Done
+    requires { ⌜ Reachable b ⌝ }
+    ensures { λ r. ⌜ Does b (SET (sheetAt (now (fields .entry)) period)) r ⌝ }
+{
+    let worked = benchmark::work_out(fields, period);
+    let checked = worked.check;
+    let Check::Pass = checked else {
+        return book::refused(b, checked);
+    };
+    let figures = worked.benchmarks;
+    let copy = fields_of(fields);
+    let mut places = b.places;
+    let mut i: usize = 0;
+    while i < 32 {
+        let p = places[i];
+        places[i] = judged(p, figures);
+        i += 1;
+    }
+    book::accepted(Book {
+        loaded: true,
+        fields: copy,
+        period,
+        benchmarks: figures,
+        places,
+    })
+}

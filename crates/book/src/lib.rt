@@ -6,6 +6,7 @@
 ghost use mathlib.Core.Path.{_≡_};
 ghost use Prim.Native.Nat.{suc, _≤_, _<_};
 ghost use lib.ListN.{length, replicate};
+ghost use Rattle.refusal.specs.declared.Check.the-variants.{Pass};
 ghost use Rattle.refusal.specs.Checks.{unless};
 ghost use Rattle.book.specs.Calls.{PUT, CLOSE, DROP};
 ghost use Rattle.book.specs.Checks.{codeCheck};
@@ -145,6 +146,17 @@ fn closed_check(p: Place) -> Check
         State::Empty => Check::Refuse(12),
         State::Draft => Check::Refuse(12),
         State::Open => Check::Pass,
+    }
+}
+
+// 10: no sheet.
+pub fn sheet_check(loaded: bool) -> Check
+    ensures { λ r. ⌜ r ≡ unless loaded 10 Pass ⌝ }
+{
+    if loaded {
+        Check::Pass
+    } else {
+        Check::Refuse(10)
     }
 }
 

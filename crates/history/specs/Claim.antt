@@ -12,9 +12,11 @@ use Rattle.tariff.specs.Tariff.{tariffOf}
 use Rattle.cap.specs.Cap.{Months, excess}
 use Rattle.verdict.specs.Cells.{Cell, Offered, ExceedsIn, Before, terms, cellCount}
 use Rattle.book.specs.declared.Book.{Book}
+use Rattle.book.specs.declared.Done.{Done}
 use Rattle.book.specs.Calls.{Sheet, Record, Call, OPEN, Answer, opened, over}
 use Rattle.book.specs.Checks.{figuresOf}
 use Rattle.book.specs.Book.{Step, isOpen, held, placeOf, fresh, step}
+use Rattle.book.specs.Promises.{answerOf, Does}
 use Rattle.history.specs.History.{acceptedOf, answersAfter, sheetOf, recordOf, openOf}
 
 -- the place of code k is open with the tariff of record x
@@ -66,3 +68,10 @@ pub record Demand3 (calls : List Call) (answers : List Answer) (b : Book) : Type
   -- 11 shows the first such cell, and months of greatest excess there
   pub over-shows : (k : ℕ) (c : Cell) (months : List ℕ) (e : ℤ) → step b (OPEN k) .answer ≡ over c months e
       → (s : Sheet) × (x : Record) × (sheetOf (acceptedOf calls) ≡ some s) × (recordOf (acceptedOf calls) k ≡ some x) × Shows s x c months e
+
+-- A list of calls made by the code: each on the book that the one before it returned, with any answers and books that the calls'
+-- own promises allow. `Does` is what SET, PUT, OPEN, CLOSE and DROP each ensure.
+pub data Trace : List Call → List Answer → Book → Type 0 where
+  start : Trace [] [] fresh
+  then : {calls : List Call} {answers : List Answer} {b : Book} → Trace calls answers b → (c : Call) (r : Done) → Does b c r
+      → Trace (calls ++ (c ∷ [])) (answers ++ (answerOf (r .reply) (r .months) ∷ [])) (r .book)

@@ -1,6 +1,7 @@
 pub mod Every
 pub mod Answers
 pub mod Lists
+pub mod Filled
 pub mod Parts
 pub mod Bounds
 pub mod Sums

@@ -2,11 +2,12 @@
 // Promise: `set` answers and leaves what `step` says of SET, on refused input too: the sheet is replaced, and each open tariff that
 // exceeds somewhere becomes a draft. It requires document 01's own sentence on the book, `Reachable`.
 ghost use mathlib.Core.Path.{_≡_};
-ghost use Prim.Native.Nat.{_≤_};
-ghost use lib.ListN.{length};
+ghost use mathlib.Core.List.{map};
+ghost use Prim.Native.Nat.{ℕ};
+ghost use lib.ListN.{length, getD};
 ghost use Rattle.benchmark.specs.Lawful.{Lawful};
 ghost use Rattle.book.specs.Calls.{SET};
-ghost use Rattle.book.specs.Book.{Reachable};
+ghost use Rattle.book.specs.Book.{beyond, Reachable};
 ghost use Rattle.book.specs.Sound.{Holds};
 ghost use Rattle.book.specs.Promises.{Does};
 ghost use Rattle.setting.specs.Setting.{sheetAt, underFigures};
@@ -38,6 +39,21 @@ fn judged(p: Place, figures: Benchmarks) -> Place
     }
 }
 
+// All places under the figures of a new sheet.
+fn all_judged(places: [Place; 32], figures: Benchmarks) -> [Place; 32]
+    requires { ⌜ Lawful figures × ((i : ℕ) → Holds (getD places i beyond)) ⌝ }
+    ensures { λ r. ⌜ r ≡ map (underFigures figures) places ⌝ }
+{
+    let mut next = places;
+    let mut i: usize = 0;
+    while i < 32 {
+        let p = next[i];
+        next[i] = judged(p, figures);
+        i += 1;
+    }
+    next
+}
+
 // The fields of a lent sheet.
 fn fields_of(fields: &[u32]) -> [u32; 95]
     requires { ⌜ length (now fields) ≡ 95 ⌝ }
@@ -64,13 +80,8 @@ pub fn set(b: Book, fields: &[u32], period: Period) -> Done
     };
     let figures = worked.benchmarks;
     let copy = fields_of(fields);
-    let mut places = b.places;
-    let mut i: usize = 0;
-    while i < 32 {
-        let p = places[i];
-        places[i] = judged(p, figures);
-        i += 1;
-    }
+    let before = b.places;
+    let places = all_judged(before, figures);
     book::accepted(Book {
         loaded: true,
         fields: copy,

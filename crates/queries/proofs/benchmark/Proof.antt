@@ -1,0 +1,107 @@
+-- `queries::benchmark` meets its contract: each check that refuses is the first that applies, and the figure read is that of its place.
+-- Assumes nothing.
+use mathlib.Core.Path.{_≡_, sym, _∙_, ap}
+use mathlib.Core.Bool.{true, _&&_}
+use lib.Dec.{ltb}
+use Rattle.queries.specs.declared.Told.the-variants.{Figure}
+use Rattle.queries.specs.Queries.{inRanges}
+use Rattle.queries.proofs.Asked.{check-passed, hands-on, place-below, benchmark-outside, benchmark-no-sheet, benchmark-told}
+use borrow.Author.Needs.{needs}
+use Rattle.queries.proofs.benchmark.Statement.{statement}
+use Rattle.queries.proofs.benchmark.Tie as tie
+
+-- the arguments are in their ranges
+ranged : (c : tie.After-enum-told)
+    → (inRanges (c .before .before .before .args .region) (c .before .before .before .args .arrangement) (c .before .before .before .args .method) && ltb (c .before .before .before .args .level) 2) ≡ true
+ranged c = check-passed _ _ (sym (c .before .before .ranges-check .ensures) ∙ c .enum-told .given .1)
+
+ranges-check-requires : tie.Need-ranges-check-requires
+ranges-check-requires c κs = search needs
+
+enum-told : tie.Need-enum-told
+enum-told c = search needs
+
+enum-told-2 : tie.Need-enum-told-2
+enum-told-2 c = search needs
+
+refused-requires : tie.Need-refused-requires
+refused-requires c κs = search needs
+
+returns : tie.Need-returns
+returns c = hands-on _ _ _ _ _ _ (c .before .before .before .ranges-check .ensures) (c .before .enum-told2 .given .1) (c .refused .ensures) (benchmark-outside _ _ _ _ _)
+
+sheet-check-requires : tie.Need-sheet-check-requires
+sheet-check-requires c κs = search needs
+
+enum-told-3 : tie.Need-enum-told-3
+enum-told-3 c = search needs
+
+enum-told-4 : tie.Need-enum-told-4
+enum-told-4 c = search needs
+
+refused-requires-2 : tie.Need-refused-requires-2
+refused-requires-2 c κs = search needs
+
+returns-2 : tie.Need-returns-2
+returns-2 c =
+    let s = c .before .before .before in
+    hands-on _ _ _ _ _ _ (s .sheet-check .ensures) (c .before .enum-told4 .given .1) (c .refused2 .ensures) (benchmark-no-sheet _ _ _ _ _ (ranged (s .before)))
+
+mul-at : tie.Need-mul-at
+mul-at c = search needs
+
+mul-at-2 : tie.Need-mul-at-2
+mul-at-2 c = search needs
+
+add-at : tie.Need-add-at
+add-at c = search needs
+
+mul-at-3 : tie.Need-mul-at-3
+mul-at-3 c = search needs
+
+add-at-2 : tie.Need-add-at-2
+add-at-2 c = search needs
+
+add-at-3 : tie.Need-add-at-3
+add-at-3 c = search needs
+
+mul-wide : tie.Need-mul-wide
+mul-wide c = search needs
+
+array-read-wide : tie.Need-array-read-wide
+array-read-wide c = place-below _ _ _ _ (ranged (c .before .before .before .before .before))
+
+wide-requires : tie.Need-wide-requires
+wide-requires c κs = search needs
+
+returns-3 : tie.Need-returns-3
+returns-3 c =
+    let d = c .before .before .before in
+    let s = d .before .before in
+    ap Figure (c .wide .ensures)
+    ∙ benchmark-told _ _ _ _ _ (s .before .before .before .before .pre) (ranged (s .before)) (check-passed _ _ (sym (s .sheet-check .ensures) ∙ d .enum-told3 .given .1))
+
+pub benchmark-spec : {M : Type 1} → statement M
+benchmark-spec =
+    tie.close
+    (tie.spec
+    ranges-check-requires
+    enum-told
+    enum-told-2
+    refused-requires
+    returns
+    sheet-check-requires
+    enum-told-3
+    enum-told-4
+    refused-requires-2
+    returns-2
+    mul-at
+    mul-at-2
+    add-at
+    mul-at-3
+    add-at-2
+    add-at-3
+    mul-wide
+    array-read-wide
+    wide-requires
+    returns-3)

@@ -1,0 +1,70 @@
+-- `setting::judged` meets its contract.
+-- Assumes nothing.
+use mathlib.Core.Path.{_∙_, subst}
+use Rattle.verdict.specs.Found.{Finds}
+use Rattle.setting.proofs.Under.{empty-kept, draft-kept, is-valid, open-kept, open-fallen}
+use borrow.Author.Needs.{needs}
+use Rattle.setting.proofs.judged.Statement.{statement}
+use Rattle.setting.proofs.judged.Tie as tie
+
+enum-told : tie.Need-enum-told
+enum-told c = search needs
+
+enum-told-2 : tie.Need-enum-told-2
+enum-told-2 c = search needs
+
+enum-told-3 : tie.Need-enum-told-3
+enum-told-3 c = search needs
+
+tariff-in-requires : tie.Need-tariff-in-requires
+tariff-in-requires c κs = search needs
+
+first-over-requires : tie.Need-first-over-requires
+first-over-requires c κs = let st = c .before .before .before in (st .pre .0, is-valid (st .args .figures) (st .args .p) (st .pre .1) (c .before .enum-told3 .given .1) (c .tariff-in .result) (c .tariff-in .ensures))
+
+enum-told-4 : tie.Need-enum-told-4
+enum-told-4 c = search needs
+
+enum-told-5 : tie.Need-enum-told-5
+enum-told-5 c = search needs
+
+in-state-requires : tie.Need-in-state-requires
+in-state-requires c κs = search needs
+
+returns : tie.Need-returns
+returns c = empty-kept (c .before .before .args .figures) (c .before .before .args .p) (c .enum-told .given .1)
+
+returns-2 : tie.Need-returns-2
+returns-2 c = draft-kept (c .before .before .args .figures) (c .before .before .args .p) (c .enum-told2 .given .1)
+
+returns-3 : tie.Need-returns-3
+returns-3 c =
+    let t = c .before .before .before in
+    let st = t .before .before .before in
+    open-kept (st .args .figures) (st .args .p) (st .pre .1) (t .before .enum-told3 .given .1) (t .tariff-in .result) (t .tariff-in .ensures)
+    (subst (Finds (st .args .figures) (t .tariff-in .result)) (c .enum-told4 .given .1) (c .before .before .first-over .ensures))
+
+returns-4 : tie.Need-returns-4
+returns-4 c =
+    let t = c .before .before .before .before in
+    let st = t .before .before .before in
+    c .in-state .ensures
+    ∙ open-fallen (st .args .figures) (st .args .p) (st .pre .1) (t .before .enum-told3 .given .1) (t .tariff-in .result) (t .tariff-in .ensures) _
+    (subst (Finds (st .args .figures) (t .tariff-in .result)) (c .before .enum-told5 .given .1) (c .before .before .before .first-over .ensures) .0)
+
+pub judged-spec : {M : Type 1} → statement M
+judged-spec =
+    tie.close
+    (tie.spec
+    enum-told
+    enum-told-2
+    enum-told-3
+    tariff-in-requires
+    first-over-requires
+    enum-told-4
+    enum-told-5
+    in-state-requires
+    returns
+    returns-2
+    returns-3
+    returns-4)

@@ -1,0 +1,89 @@
+-- `setting::set` meets its contract. The figures worked out are those of the sheet, and every place is judged by them.
+-- Assumes nothing.
+use mathlib.Core.Path.{_≡_, sym, _∙_, ap, subst}
+use mathlib.Core.Bool.{true}
+use mathlib.Core.List.{map}
+use Prim.Native.Nat.{suc}
+use Rattle.refusal.specs.declared.Check.{Check}
+use Rattle.refusal.specs.declared.Check.the-variants.{Pass}
+use Rattle.benchmark.specs.declared.Benchmarks.{Benchmarks}
+use Rattle.benchmark.specs.Benchmark.{benchmarksOf, setCheck, workedIf}
+use Rattle.benchmark.specs.Lawful.{Lawful}
+use Rattle.benchmark.proofs.Lawful.{lawful, passed-count}
+use Rattle.book.proofs.Reached.{reached}
+use Rattle.book.proofs.Steps.{hands-on, accepts, set-refused, set-passed}
+use Rattle.book.specs.Book.{under}
+use Rattle.setting.specs.Setting.{sheetAt, underFigures}
+use Rattle.setting.proofs.Under.{under-alike}
+use borrow.Author.Needs.{needs}
+use Rattle.setting.proofs.set.Statement.{statement}
+use Rattle.setting.proofs.set.Tie as tie
+
+-- all checks passed, so the figures are the sheet's, and lawful
+passed : (c : tie.After-enum-told) → setCheck (c .before .before .before .before .args .fields .now) (c .before .before .before .before .args .period) ≡ Pass
+passed c = sym (c .before .before .work-out .ensures .0) ∙ c .enum-told .given .1
+
+worked : (c : tie.After-enum-told) → c .before .before .work-out .result .benchmarks ≡ benchmarksOf (c .before .before .before .before .args .fields .now) (c .before .before .before .before .args .period)
+worked c =
+    c .before .before .work-out .ensures .1 ∙ ap (λ (k : Check). workedIf k (benchmarksOf (c .before .before .before .before .args .fields .now) (c .before .before .before .before .args .period))) (passed c)
+
+fit : (c : tie.After-enum-told) → Lawful (c .before .before .work-out .result .benchmarks)
+fit c = subst Lawful (sym (worked c)) (lawful (c .before .before .before .before .args .fields .now) (c .before .before .before .before .args .period) (passed c))
+
+work-out-requires : tie.Need-work-out-requires
+work-out-requires c κs = search needs
+
+enum-told : tie.Need-enum-told
+enum-told c = search needs
+
+enum-told-2 : tie.Need-enum-told-2
+enum-told-2 c = search needs
+
+refused-requires : tie.Need-refused-requires
+refused-requires c κs = search needs
+
+returns : tie.Need-returns
+returns c =
+    let w = c .before .before .before in
+    let st = w .before .before in
+    let told = c .before .enum-told2 .given .1 in
+    let s = sheetAt (st .args .fields .now) (st .args .period) in
+    hands-on (st .args .b) _ _ (w .work-out .result .check) _ told (set-refused (st .args .b) s _ (sym (w .work-out .ensures .0) ∙ told)) (c .refused .ensures)
+
+fields-of-requires : tie.Need-fields-of-requires
+fields-of-requires c κs = let st = c .before .before .before .before .before in passed-count (st .args .fields .now) (st .args .period) (passed (c .before))
+
+all-judged-requires : tie.Need-all-judged-requires
+all-judged-requires c κs = let st = c .before .before .before .before .before .before .before in (fit (c .before .before .before), λ i. reached (st .args .b) (st .pre) .places (suc i))
+
+accepted-requires : tie.Need-accepted-requires
+accepted-requires c κs = search needs
+
+returns-2 : tie.Need-returns-2
+returns-2 c =
+    let t = c .before .before .before .before .before in
+    let st = t .before .before .before .before in
+    let b = st .args .b in
+    let figures = worked t in
+    let s = sheetAt (st .args .fields .now) (st .args .period) in
+    let places : c .before .all-judged .result ≡ map (under s) (b .places) =
+    c .before .all-judged .ensures ∙ ap (λ (f : Benchmarks). map (underFigures f) (b .places)) figures ∙ under-alike s (b .places) in
+    accepts b _ _ (set-passed b s (passed t)) (
+      c .accepted .ensures .0,
+      c .accepted .ensures .1,
+      c .accepted .ensures .2 ∙ (λ i. record { loaded = true; fields = c .before .before .before .fields-of .ensures i; period = st .args .period; benchmarks = figures i; places = places i }),
+    )
+
+pub set-spec : {M : Type 1} → statement M
+set-spec =
+    tie.close
+    (tie.spec
+    work-out-requires
+    enum-told
+    enum-told-2
+    refused-requires
+    returns
+    fields-of-requires
+    all-judged-requires
+    accepted-requires
+    returns-2)

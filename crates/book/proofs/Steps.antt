@@ -204,7 +204,8 @@ module _ (b : Book) (k : ℕ) (p : Place) (within : codeCheck k ≡ Pass) (is : 
   unfolding step
   open-open n e = let f = open-refused (p .state) n e in rw (in-range, is, f .1) (sym (ap refused (f .0)))
 
-  pub open-no-sheet : emptyCheck (p .state) ≡ Pass → openCheck (p .state) ≡ Pass → b .loaded ≡ false → step b (OPEN k) .answer ≡ refused 10
+  pub open-no-sheet : emptyCheck (p .state) ≡ Pass → openCheck (p .state) ≡ Pass → b .loaded ≡ false
+      → step b (OPEN k) .answer ≡ refused 10
   unfolding step
   open-no-sheet d e l = rw (in-range, is, empty-passed (p .state) (numbers p) d, open-passed (p .state) e, l)
 

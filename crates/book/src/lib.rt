@@ -300,13 +300,13 @@ pub fn drop(b: Book, code: u32) -> Done
     };
     let at = (code - 1) as usize;
     let p = b.places[at];
-    let filled = empty_check(p);
-    let Check::Pass = filled else {
-        return refused(b, filled);
+    let taken = empty_check(p);
+    let Check::Pass = taken else {
+        return refused(b, taken);
     };
-    let shut = open_check(p);
-    let Check::Pass = shut else {
-        return refused(b, shut);
+    let closed = open_check(p);
+    let Check::Pass = closed else {
+        return refused(b, closed);
     };
     accepted(with_place(b, at, empty_place()))
 }

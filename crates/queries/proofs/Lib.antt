@@ -1,3 +1,4 @@
 pub mod InForce
 pub mod Asked
+pub mod Listed
 pub mod Quoted

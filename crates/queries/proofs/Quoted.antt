@@ -4,20 +4,17 @@ use mathlib.Core.Path.{_≡_, refl, sym, _∙_, ap, subst}
 use mathlib.Core.Bool.{Bool, true, false, _&&_}
 use mathlib.Core.List.{List}
 use mathlib.Core.Logic.{_⊎_, inl, inr}
-use Prim.Native.Nat.{ℕ, _<_, _≤_}
-use native.Mathlib.Decide.{decLt}
-use native.Mathlib.Omega.{arith}
-use lib.Dec.{leb, ltb, eqb}
-use lib.ListN.{length, getD, List·getD-eq-default}
-use borrow.Author.Tests.{ltb-true, leb-true, eqb-true}
-use Rattle.laws.proofs.Every.{every-at, and-left, and-right}
+use Prim.Native.Nat.{ℕ, _<_}
+use lib.Dec.{ltb}
+use borrow.Author.Tests.{ltb-true}
+use Rattle.laws.proofs.Every.{and-left, and-right}
 use Rattle.refusal.specs.declared.Check.the-variants.{Pass, Refuse}
 use Rattle.benchmark.specs.declared.Benchmarks.{Benchmarks}
 use Rattle.tariff.specs.declared.Tariff.{Tariff}
 use Rattle.tariff.specs.Tariff.{tariffOf, validTariff}
 use Rattle.charge.specs.Charge.{arrangement}
 use Rattle.cap.specs.declared.Terms.{Terms}
-use Rattle.cap.specs.Cap.{charged, capped, Months}
+use Rattle.cap.specs.Cap.{charged, capped}
 use Rattle.verdict.specs.Cells.{offered, terms}
 use Rattle.verdict.specs.Found.{cell}
 use Rattle.book.specs.declared.State.{State}
@@ -41,22 +38,6 @@ unfolding cellAllowed
 cell-within x r p e =
     let both = and-left (ltb r 14 && ltb p 2) (offered x (cell r p)) e in
     (ltb-true r 14 (and-left (ltb r 14) (ltb p 2) both), ltb-true p 2 (and-right (ltb r 14) (ltb p 2) both))
-
--- a list that 13 allows is one of t months
-months-within : (t : ℕ) (months : List ℕ) → monthsAllowed t months ≡ true → Months t months
-unfolding monthsAllowed
-months-within t months e = (eqb-true (length months) t (and-left _ _ e), λ i. go i (decLt i (length months)))
-  where
-    go : (i : ℕ) → Dec (i < length months) → getD months i 0 ≤ 10000
-    go i (yes h) =
-        leb-true (getD months i 0) 10000 (every-at (λ j. leb (getD months j 0) 10000) (length months) (and-right (eqb (length months) t) _ e) i h)
-    go i (no h) = omega (arith, List·getD-eq-default months 0 {n = i} (omega arith))
-
--- as many as the terms of a cell have
-pub months-for : (f : Benchmarks) (r a p : ℕ) (e : Terms) → e ≡ termsIn f r a p
-    → (months : List ℕ) → monthsAllowed (f .months) months ≡ true → Months (e .months) months
-unfolding termsIn
-months-for f r a p e is months h = subst (λ (d : Terms). Months (d .months) months) (sym is) (months-within (f .months) months h)
 
 -- a place that 9 lets pass
 filled-state : (s : State) → emptyCheck s ≡ Pass → (s ≡ Draft) ⊎ (s ≡ Open)

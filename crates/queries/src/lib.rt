@@ -186,12 +186,8 @@ pub fn quote(b: Book, code: u32, region: u32, method: u32, months: &[u32]) -> To
     let Check::Pass = allowed else {
         return refused(allowed);
     };
-    let e = terms_in(
-        figures,
-        region as usize,
-        verdict::arrangement_of(x),
-        method as usize,
-    );
+    let arrangement = verdict::arrangement_of(x);
+    let e = terms_in(figures, region as usize, arrangement, method as usize);
     let sides = cap::sides_of(e, x, months);
     Told::Figures(sides.charged, sides.capped)
 }

@@ -22,11 +22,13 @@ below : (c : tie.After-enum-told) → c .before .before .before .args .code - 1 
 below c = index-below _ (within c)
 
 -- and the place read is that of the code
-at-code : (c : tie.After-enum-told) → placeOf (c .before .before .before .args .t1 .places) (c .before .before .before .args .code) ≡ getD (c .before .before .before .args .t1 .places) (c .before .before .before .args .code - 1) beyond
+at-code : (c : tie.After-enum-told) → let a = c .before .before .before .args in
+    placeOf (a .t1 .places) (a .code) ≡ getD (a .t1 .places) (a .code - 1) beyond
 at-code c = read _ _ (from-1 c)
 
 -- the place is not empty
-filled : (c : tie.After-enum-told3) → emptyCheck (getD (c .before .before .before .before .before .before .before .args .t1 .places) (c .before .before .before .before .before .before .before .args .code - 1) beyond .state) ≡ Pass
+filled : (c : tie.After-enum-told3) → let a = c .before .before .before .before .before .before .before .args in
+    emptyCheck (getD (a .t1 .places) (a .code - 1) beyond .state) ≡ Pass
 filled c = sym (c .before .before .empty-check .ensures) ∙ c .enum-told3 .given .1
 
 code-check-requires : tie.Need-code-check-requires
@@ -44,7 +46,9 @@ refused-requires c κs = search needs
 returns : tie.Need-returns
 returns c =
     let told = c .before .enum-told2 .given .1 in
-    hands-on _ _ _ _ _ told (drop-outside _ _ _ (sym (c .before .before .before .code-check .ensures) ∙ told)) (c .refused .ensures)
+    hands-on _ _ _ _ _ told
+    (drop-outside _ _ _ (sym (c .before .before .before .code-check .ensures) ∙ told))
+    (c .refused .ensures)
 
 sub-at : tie.Need-sub-at
 sub-at c = from-1 c
@@ -74,7 +78,9 @@ returns-2 : tie.Need-returns-2
 returns-2 c =
     let w = c .before .before .before .before .before in
     let told = c .before .enum-told4 .given .1 in
-    hands-on _ _ _ _ _ told (drop-empty _ _ _ (within w) (at-code w) _ (sym (c .before .before .before .empty-check .ensures) ∙ told)) (c .refused2 .ensures)
+    hands-on _ _ _ _ _ told
+    (drop-empty _ _ _ (within w) (at-code w) _ (sym (c .before .before .before .empty-check .ensures) ∙ told))
+    (c .refused2 .ensures)
 
 open-check-requires : tie.Need-open-check-requires
 open-check-requires c κs = search needs
@@ -92,7 +98,9 @@ returns-3 : tie.Need-returns-3
 returns-3 c =
     let w = c .before .before .before .before .before .before .before .before in
     let told = c .before .enum-told6 .given .1 in
-    hands-on _ _ _ _ _ told (drop-open _ _ _ (within w) (at-code w) _ (sym (c .before .before .before .open-check .ensures) ∙ told)) (c .refused3 .ensures)
+    hands-on _ _ _ _ _ told
+    (drop-open _ _ _ (within w) (at-code w) _ (sym (c .before .before .before .open-check .ensures) ∙ told))
+    (c .refused3 .ensures)
 
 empty-place-requires : tie.Need-empty-place-requires
 empty-place-requires c κs = search needs

@@ -25,14 +25,17 @@ below : (c : tie.After-enum-told) → c .before .before .before .before .args .c
 below c = index-below _ (within c)
 
 -- and the place read is that of the code
-at-code : (c : tie.After-enum-told) → placeOf (c .before .before .before .before .args .t1 .places) (c .before .before .before .before .args .code) ≡ getD (c .before .before .before .before .args .t1 .places) (c .before .before .before .before .args .code - 1) beyond
+at-code : (c : tie.After-enum-told) → let a = c .before .before .before .before .args in
+    placeOf (a .t1 .places) (a .code) ≡ getD (a .t1 .places) (a .code - 1) beyond
 at-code c = read _ _ (from-1 c)
 
 -- the place is not open, and the record passes
-shut : (c : tie.After-enum-told3) → openCheck (getD (c .before .before .before .before .before .before .before .before .args .t1 .places) (c .before .before .before .before .before .before .before .before .args .code - 1) beyond .state) ≡ Pass
+shut : (c : tie.After-enum-told3) → let a = c .before .before .before .before .before .before .before .before .args in
+    openCheck (getD (a .t1 .places) (a .code - 1) beyond .state) ≡ Pass
 shut c = sym (c .before .before .open-check .ensures) ∙ c .enum-told3 .given .1
 
-sound : (c : tie.After-enum-told5) → recordCheck (now (c .before .before .before .before .before .before .before .before .before .before .before .args .x)) ≡ Pass
+sound : (c : tie.After-enum-told5) → let a = c .before .before .before .before .before .before .before .before .before .before .before .args in
+    recordCheck (now (a .x)) ≡ Pass
 sound c = sym (c .before .before .check .ensures) ∙ c .enum-told5 .given .1
 
 code-check-requires : tie.Need-code-check-requires
@@ -50,7 +53,9 @@ refused-requires c κs = search needs
 returns : tie.Need-returns
 returns c =
     let told = c .before .enum-told2 .given .1 in
-    hands-on _ _ _ _ _ told (put-outside _ _ _ (sym (c .before .before .before .code-check .ensures) ∙ told) _) (c .refused .ensures)
+    hands-on _ _ _ _ _ told
+    (put-outside _ _ _ (sym (c .before .before .before .code-check .ensures) ∙ told) _)
+    (c .refused .ensures)
 
 sub-at : tie.Need-sub-at
 sub-at c = from-1 c
@@ -80,7 +85,9 @@ returns-2 : tie.Need-returns-2
 returns-2 c =
     let w = c .before .before .before .before .before in
     let told = c .before .enum-told4 .given .1 in
-    hands-on _ _ _ _ _ told (put-open _ _ _ (within w) (at-code w) _ _ (sym (c .before .before .before .open-check .ensures) ∙ told)) (c .refused2 .ensures)
+    hands-on _ _ _ _ _ told
+    (put-open _ _ _ (within w) (at-code w) _ _ (sym (c .before .before .before .open-check .ensures) ∙ told))
+    (c .refused2 .ensures)
 
 check-requires : tie.Need-check-requires
 check-requires c κs = search needs
@@ -99,7 +106,9 @@ returns-3 c =
     let q = c .before .before .before .before in
     let w = q .before .before .before .before in
     let told = c .before .enum-told6 .given .1 in
-    hands-on _ _ _ _ _ told (put-record _ _ _ (within w) (at-code w) _ _ (shut q) (sym (c .before .before .before .check .ensures) ∙ told)) (c .refused3 .ensures)
+    hands-on _ _ _ _ _ told
+    (put-record _ _ _ (within w) (at-code w) _ _ (shut q) (sym (c .before .before .before .check .ensures) ∙ told))
+    (c .refused3 .ensures)
 
 draft-of-requires : tie.Need-draft-of-requires
 draft-of-requires c κs = record-length _ (sound c)

@@ -2,6 +2,7 @@
 -- Assumes nothing.
 use mathlib.Core.Path.{_≡_, sym, _∙_, ap}
 use mathlib.Core.Bool.{true, _&&_}
+use native.Mathlib.Omega.{arith}
 use lib.Dec.{ltb}
 use Rattle.queries.specs.declared.Told.the-variants.{Figure}
 use Rattle.queries.specs.Queries.{inRanges}
@@ -69,7 +70,10 @@ mul-wide : tie.Need-mul-wide
 mul-wide c = search needs
 
 array-read-wide : tie.Need-array-read-wide
-array-read-wide c = place-below _ _ _ _ (ranged (c .before .before .before .before .before))
+array-read-wide c =
+    let g = c .before .before .before .before .before in
+    let x = g .before .before .before .args in
+    omega (arith, place-below (x .region) (x .arrangement) (x .method) (x .level) (ranged g))
 
 wide-requires : tie.Need-wide-requires
 wide-requires c κs = search needs

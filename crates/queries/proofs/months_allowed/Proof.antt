@@ -4,25 +4,22 @@ use mathlib.Core.Path.{_≡_, refl}
 use mathlib.Core.Bool.{true}
 use Prim.Native.Nat.{_-_, _≤_}
 use native.Mathlib.Omega.{arith}
-use lib.Dec.{leb}
-use lib.ListN.{length, getD}
-use borrow.Author.Tests.{le-leb, lt-leb, eq-eqb, ne-eqb}
+use lib.ListN.{length}
+use borrow.Author.Tests.{le-leb}
 use Rattle.laws.specs.Notions.{every}
 use Rattle.laws.proofs.Every.{every-more}
-use Rattle.laws.proofs.Answers.{stops, ends}
-use Rattle.queries.specs.Queries.{monthsAllowed}
+use Rattle.queries.proofs.Listed.{small, other-length, month-above, all-pass}
 use Rattle.queries.proofs.months_allowed.Statement.{statement}
 use Rattle.queries.proofs.months_allowed.Tie as tie
 
 abbrev Inv-loop : tie.InvT-loop
-Inv-loop months t i₀ i = (i ≤ length months) × (every i (λ j. leb (getD months j 0) 10000) ≡ true)
+Inv-loop months t i₀ i = (i ≤ length months) × (every i (small months) ≡ true)
 
 abbrev μ-loop : tie.MeasureT-loop
 μ-loop months t i₀ i = length months - i
 
 returns : tie.Need-returns Inv-loop μ-loop
-unfolding monthsAllowed
-returns c = rw (ne-eqb (length (c .before .args .months .now)) (c .before .args .t) (c .if1 .taken))
+returns c = other-length _ _ (λ e. omega arith)
 
 loop-holds : tie.Need-loop-holds Inv-loop μ-loop
 unfolding every
@@ -35,10 +32,9 @@ shared-slice-read-if2 : tie.Need-shared-slice-read-if2 Inv-loop μ-loop
 shared-slice-read-if2 c = omega arith
 
 returns-2 : tie.Need-returns-2 Inv-loop μ-loop
-unfolding monthsAllowed
 returns-2 c =
     let n = c .before .before .before in
-    rw (eq-eqb _ _ (n .before .if1 .left)) (stops _ _ (n .loop .i) (c .before .before .loop-test .taken) (lt-leb _ _ (c .if2 .taken)))
+    month-above _ _ (n .loop .i) (c .before .before .loop-test .taken) (omega arith)
 
 add-i : tie.Need-add-i Inv-loop μ-loop
 add-i c = omega arith
@@ -50,10 +46,9 @@ loop-again : tie.Need-loop-again Inv-loop μ-loop
 loop-again c = (omega arith, every-more _ _ (c .before .before .before .loop .inv .1) (le-leb _ _ (c .if2 .left)))
 
 returns-3 : tie.Need-returns-3 Inv-loop μ-loop
-unfolding monthsAllowed
 returns-3 c =
     let lp = c .before .loop in
-    rw (eq-eqb _ _ (c .before .before .if1 .left)) (ends _ _ (lp .i) (lp .inv .0) (c .loop-test .left) (lp .inv .1))
+    all-pass _ _ (c .before .before .if1 .left) (lp .i) (lp .inv .0) (c .loop-test .left) (lp .inv .1)
 
 pub months-allowed-spec : {M : Type 1} → statement M
 months-allowed-spec =

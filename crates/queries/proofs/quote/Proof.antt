@@ -3,6 +3,7 @@
 use mathlib.Core.Path.{_≡_, sym, _∙_, ap}
 use mathlib.Core.Bool.{true, _&&_}
 use Prim.Native.Nat.{_-_, _≤_}
+use native.Mathlib.Omega.{arith}
 use lib.ListN.{getD}
 use denote.Ref.{now}
 use Rattle.refusal.specs.declared.Check.the-variants.{Pass}
@@ -15,40 +16,60 @@ use Rattle.book.proofs.Steps.{code-passed, index-below, read}
 use Rattle.queries.specs.Queries.{refusalTold, cellAllowed, monthsAllowed}
 use Rattle.queries.proofs.InForce.{figures-lawful}
 use Rattle.queries.proofs.Asked.{check-passed, hands-on}
-use Rattle.queries.proofs.Quoted.{cell-within, months-for, quote-outside, quote-empty, quote-no-sheet, tariff-valid, quote-disallowed, quote-told}
+use Rattle.queries.proofs.Listed.{months-for}
+use Rattle.queries.proofs.Quoted.{cell-within, quote-outside, quote-empty, quote-no-sheet, tariff-valid, quote-disallowed, quote-told}
 use borrow.Author.Needs.{needs}
 use Rattle.queries.proofs.quote.Statement.{statement}
 use Rattle.queries.proofs.quote.Tie as tie
 
+-- where 6, 9 and 10 have passed, behind the check after them, and where the call starts
+abbrev start : tie.After-enum-told → tie.Start
+start c = c .before .before .before .before
+
+abbrev past-6 : tie.After-enum-told3 → tie.After-enum-told
+past-6 c = c .before .before .before .before
+
+abbrev past-9 : tie.After-enum-told5 → tie.After-enum-told3
+past-9 c = c .before .before .before
+
+abbrev past-10 : tie.After-enum-told7 → tie.After-enum-told5
+past-10 c = c .before .before .before .before .before
+
+abbrev start-7 : tie.After-enum-told7 → tie.Start
+start-7 c = start (past-6 (past-9 (past-10 c)))
+
 -- the code is one of the 32
-inside : (c : tie.After-enum-told) → codeCheck (c .before .before .before .before .args .code) ≡ Pass
+inside : (c : tie.After-enum-told) → codeCheck (start c .args .code) ≡ Pass
 inside c = sym (c .before .before .code-check .ensures) ∙ c .enum-told .given .1
 
-from-1 : (c : tie.After-enum-told) → 1 ≤ c .before .before .before .before .args .code
+from-1 : (c : tie.After-enum-told) → 1 ≤ start c .args .code
 from-1 c = code-passed _ (inside c) .0
 
 -- and the place read is that of the code
-at-code : (c : tie.After-enum-told) → placeOf (c .before .before .before .before .args .t1 .places) (c .before .before .before .before .args .code) ≡ getD (c .before .before .before .before .args .t1 .places) (c .before .before .before .before .args .code - 1) beyond
+at-code : (c : tie.After-enum-told)
+    → placeOf (start c .args .t1 .places) (start c .args .code) ≡ getD (start c .args .t1 .places) (start c .args .code - 1) beyond
 at-code c = read _ _ (from-1 c)
 
 -- the place is not empty
-filled : (c : tie.After-enum-told3) → emptyCheck (getD (c .before .before .before .before .before .before .before .before .args .t1 .places) (c .before .before .before .before .before .before .before .before .args .code - 1) beyond .state) ≡ Pass
+filled : (c : tie.After-enum-told3)
+    → emptyCheck (getD (start (past-6 c) .args .t1 .places) (start (past-6 c) .args .code - 1) beyond .state) ≡ Pass
 filled c = sym (c .before .before .empty-check .ensures) ∙ c .enum-told3 .given .1
 
 -- a sheet is in force
-loaded : (c : tie.After-enum-told5) → c .before .before .before .before .before .before .before .before .before .before .before .args .t1 .loaded ≡ true
+loaded : (c : tie.After-enum-told5) → start (past-6 (past-9 c)) .args .t1 .loaded ≡ true
 loaded c = check-passed _ _ (sym (c .before .before .sheet-check .ensures) ∙ c .enum-told5 .given .1)
 
--- and cell and months are allowed
+-- cell and months are allowed
 allowed : (c : tie.After-enum-told7)
-    → (cellAllowed (c .before .before .before .tariff-in .result) (c .before .before .before .before .before .before .before .before .before .before .before .before .before .before .before .before .args .region) (c .before .before .before .before .before .before .before .before .before .before .before .before .before .before .before .before .args .method) && monthsAllowed (c .before .before .before .before .before .before .before .before .before .before .before .before .before .before .before .before .args .t1 .benchmarks .months) (now (c .before .before .before .before .before .before .before .before .before .before .before .before .before .before .before .before .args .months))) ≡ true
+    → (cellAllowed (c .before .before .before .tariff-in .result) (start-7 c .args .region) (start-7 c .args .method) && monthsAllowed (start-7 c .args .t1 .benchmarks .months) (now (start-7 c .args .months))) ≡ true
 allowed c = check-passed _ _ (sym (c .before .before .quote-check .ensures) ∙ c .enum-told7 .given .1)
 
+-- and the tariff is valid
 valid : (c : tie.After-enum-told7) → validTariff (c .before .before .before .tariff-in .result) ≡ true
 valid c =
-    let f = c .before .before .before .before .before .before .before .before in
-    let w = f .before .before .before .before in
-    tariff-valid _ (w .before .before .before .before .pre) (c .before .before .before .before .before .before .before .before .before .before .before .before .before .before .before .before .args .code) _ (at-code w) (filled f) _ (c .before .before .before .tariff-in .ensures)
+    let f = past-9 (past-10 c) in
+    let w = past-6 f in
+    tariff-valid _ (start w .pre) (start w .args .code) _ (at-code w) (filled f) _ (c .before .before .before .tariff-in .ensures)
 
 code-check-requires : tie.Need-code-check-requires
 code-check-requires c κs = search needs
@@ -114,7 +135,7 @@ returns-3 : tie.Need-returns-3
 returns-3 c =
     let s = c .before .before .before in
     let f = s .before in
-    let w = f .before .before .before .before in
+    let w = past-6 f in
     hands-on _ _ _ _ _ _ (s .sheet-check .ensures) (c .before .enum-told6 .given .1) (c .refused3 .ensures)
     (quote-no-sheet _ _ _ _ _ _ (inside w) (at-code w) (filled f))
 
@@ -138,10 +159,10 @@ returns-4 c =
     let q = c .before .before .before in
     let x = q .before in
     let l = x .before .before in
-    let f = l .before .before .before in
-    let w = f .before .before .before .before in
+    let f = past-9 l in
+    let w = past-6 f in
     hands-on _ _ _ _ _ _ (q .quote-check .ensures) (c .before .enum-told8 .given .1) (c .refused4 .ensures)
-    (quote-disallowed _ _ _ _ _ _ (inside w) (at-code w) (filled f) (w .before .before .before .before .pre) _ (x .tariff-in .ensures) (loaded l))
+    (quote-disallowed _ _ _ _ _ _ (inside w) (at-code w) (filled f) (start w .pre) _ (x .tariff-in .ensures) (loaded l))
 
 arrangement-of-requires : tie.Need-arrangement-of-requires
 arrangement-of-requires c κs = search needs
@@ -149,10 +170,8 @@ arrangement-of-requires c κs = search needs
 terms-in-requires : tie.Need-terms-in-requires
 terms-in-requires c κs =
     let d = c .before in
-    let l = d .before .before .before .before .before in
-    let a = and-left _ _ (allowed d) in
-    let w = cell-within _ _ _ a in
-    (figures-lawful _ (l .before .before .before .before .before .before .before .before .before .before .before .pre) (loaded l), w .0, c .arrangement-of .ensures .1, w .1)
+    let w = cell-within _ _ _ (and-left _ _ (allowed d)) in
+    (figures-lawful _ (start-7 d .pre) (loaded (past-10 d)), w .0, omega (arith, c .arrangement-of .ensures .1), w .1)
 
 sides-of-requires : tie.Need-sides-of-requires
 sides-of-requires c κs =
@@ -164,12 +183,11 @@ returns-5 : tie.Need-returns-5
 returns-5 c =
     let e = c .before in
     let d = e .before .before in
-    let q = d .before .before in
-    let x = q .before in
-    let l = x .before .before in
-    let f = l .before .before .before in
-    let w = f .before .before .before .before in
-    quote-told _ _ _ _ _ _ (inside w) (at-code w) (filled f) (w .before .before .before .before .pre) _ (x .tariff-in .ensures) (loaded l) (allowed d)
+    let x = d .before .before .before in
+    let l = past-10 d in
+    let f = past-9 l in
+    let w = past-6 f in
+    quote-told _ _ _ _ _ _ (inside w) (at-code w) (filled f) (start w .pre) _ (x .tariff-in .ensures) (loaded l) (allowed d)
     _ (e .before .arrangement-of .ensures .0) _ (e .terms-in .ensures .0) _ _ (c .sides-of .ensures .0) (c .sides-of .ensures .1)
 
 pub quote-spec : {M : Type 1} → statement M

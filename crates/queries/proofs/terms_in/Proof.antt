@@ -58,8 +58,9 @@ wide-requires-4 c κs = search needs
 returns : tie.Need-returns
 returns c =
     let st = c .before .before .before .before .before .before in
-    let is = terms-read (st .args .figures) (st .args .region) (st .args .arrangement) (st .args .method) _ (c .before .before .before .wide .ensures) (c .before .before .wide2 .ensures) (c .before .wide3 .ensures) (c .wide4 .ensures) refl in
-    (is, subst Fits (sym is) (terms-in-fit (st .args .figures) (st .pre .0) (st .args .region) (st .args .arrangement) (st .args .method) (st .pre .1) (st .pre .2) (st .pre .3)))
+    let is =
+    terms-read _ _ _ _ _ (c .before .before .before .wide .ensures) (c .before .before .wide2 .ensures) (c .before .wide3 .ensures) (c .wide4 .ensures) refl in
+    (is, subst Fits (sym is) (terms-in-fit (st .args .figures) (st .pre .0) _ _ _ (st .pre .1) (st .pre .2) (st .pre .3)))
 
 pub terms-in-spec : {M : Type 1} → statement M
 terms-in-spec =

@@ -1,0 +1,2 @@
+pub mod October
+pub mod Lists

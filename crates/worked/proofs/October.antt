@@ -1,0 +1,77 @@
+-- Sheet S for October 2023 alone: it is accepted, and two tariffs under it.
+-- Assumes nothing.
+use mathlib.Core.Path.{_≡_, refl, sym, _∙_, ap, subst}
+use mathlib.Core.Bool.{Bool, true, false}
+use mathlib.Core.List.{List, [], _∷_, _++_}
+use Prim.Native.Nat.{ℕ, zero, suc, _<_}
+use lib.Count.{ones, onesIn}
+use lib.Dec.{lit<}
+use lib.IntN.{ℤ, pos, negsuc}
+use lib.ListN.{length}
+use lib.Signed.{_<ℤ_, ltZ-yes}
+use Rattle.laws.specs.Notions.{every, sum, total, tabulate, tabulateFrom}
+use Rattle.calendar.specs.Calendar.{periodDays, periodInRange, monthBegins, lengthAt, monthLength, leapYear}
+use Rattle.sheet.specs.Sheet.{rangeOf, fieldInRange, fieldsInRange, round, indexed, fourFit, paacFits, termsFit}
+use Rattle.benchmark.specs.declared.Benchmarks.{Benchmarks}
+use Rattle.benchmark.specs.Benchmark.{benchmark, wc, pc, oc, nc, paenc, headroom, panc, figure, figures, ordered, setCheck, benchmarksOf}
+use Rattle.tariff.specs.declared.Tariff.{Tariff}
+use Rattle.tariff.specs.Tariff.{tariffOf, recordCheck, validTariff, validKind, singleRegister, economy7, multiRegister, ratesWithin, zeroFrom, within, rising}
+use Rattle.charge.specs.Charge.{arrangement, tierCharge, weighted, monthCharge, charge}
+use Rattle.charge.specs.Tiers.{Rising, hundredths, ends}
+use Rattle.cap.specs.Cap.{maximum, charged, capped, excess}
+use Rattle.cap.specs.Judged.{scan}
+use Rattle.verdict.specs.Cells.{Cell, bit, offered, terms, cellCount, Verdict, opens, over, verdict}
+use Rattle.verdict.proofs.Scanned.{scannedBelow, scannedVerdict, verdict-scanned}
+use Rattle.reference.specs.SheetS.{times, sheetS, periodS, flat, tiered, economySeven}
+use Rattle.reference.specs.Starred.{Starred, benchmarksS, firstOther, verdictOn, excessOf}
+use Rattle.refusal.specs.declared.Check.the-variants.{Pass}
+use Rattle.calendar.specs.declared.Period.{Period}
+
+abbrev octoberPeriod : Period
+octoberPeriod = record { year = 2023; month = 10; months = 1 }
+
+known : Benchmarks
+known =
+    record {
+      charges = times 14 (9418050 ∷ 66183090 ∷ 8817500 ∷ 64469500 ∷ 9418050 ∷ 72982410 ∷ 8817500 ∷ 71135500 ∷ []);
+      levels = 3000 ∷ 4000 ∷ [];
+      months = 1;
+      days = 31;
+    }
+
+is-known : benchmarksOf sheetS octoberPeriod ≡ known
+unfolding benchmarksOf figures figure tabulate tabulateFrom benchmark wc pc oc nc paenc headroom panc indexed round sheetS times periodDays monthBegins lengthAt monthLength leapYear known
+is-known = refl
+
+pub october-accepted : setCheck sheetS octoberPeriod ≡ Pass
+unfolding setCheck fieldsInRange fieldInRange rangeOf every termsFit fourFit paacFits ordered periodInRange figures figure tabulate tabulateFrom benchmark wc pc oc nc paenc headroom panc indexed round sheetS times periodDays monthBegins lengthAt monthLength leapYear hundredths ends Rising recordCheck validTariff validKind singleRegister economy7 multiRegister ratesWithin zeroFrom within rising
+october-accepted = refl
+
+by-scan : (x : List ℕ) (v : Verdict) → length (hundredths (tariffOf x)) ≡ suc (length (ends (tariffOf x))) → Rising 0 (ends (tariffOf x)) 10000
+    → scannedVerdict known (tariffOf x) ≡ v → verdict (benchmarksOf sheetS octoberPeriod) (tariffOf x) ≡ v
+by-scan x v fit rise e =
+    ap (λ (b : Benchmarks). verdict b (tariffOf x)) is-known ∙ verdict-scanned known (tariffOf x) fit rise ∙ e
+
+low-computed : scannedVerdict known (tariffOf (flat 23000 18000)) ≡ opens 28
+unfolding scannedVerdict scannedBelow offered bit terms arrangement scan tierCharge weighted monthCharge charge maximum charged capped excess sum total ends cellCount ones onesIn known times
+low-computed = refl
+
+close-computed : scannedVerdict known (tariffOf (flat 23960 18000)) ≡ over firstOther (0 ∷ []) (pos 28686000000)
+unfolding scannedVerdict scannedBelow offered bit terms arrangement scan tierCharge weighted monthCharge charge maximum charged capped excess sum total ends cellCount ones onesIn known times
+close-computed = refl
+
+pub october-low : verdict (benchmarksOf sheetS octoberPeriod) (tariffOf (flat 23000 18000)) ≡ opens 28
+unfolding hundredths ends Rising
+october-low = by-scan (flat 23000 18000) _ refl (lit< tt) low-computed
+
+pub october-close : verdict (benchmarksOf sheetS octoberPeriod) (tariffOf (flat 23960 18000)) ≡ over firstOther (0 ∷ []) (pos 28686000000)
+unfolding hundredths ends Rising
+october-close = by-scan (flat 23960 18000) _ refl (lit< tt) close-computed
+
+pub close-record : recordCheck (flat 23960 18000) ≡ Pass
+unfolding setCheck fieldsInRange fieldInRange rangeOf every termsFit fourFit paacFits ordered periodInRange figures figure tabulate tabulateFrom benchmark wc pc oc nc paenc headroom panc indexed round sheetS times periodDays monthBegins lengthAt monthLength leapYear hundredths ends Rising recordCheck validTariff validKind singleRegister economy7 multiRegister ratesWithin zeroFrom within rising
+close-record = refl
+
+pub high-record : recordCheck (flat 23961 18000) ≡ Pass
+unfolding setCheck fieldsInRange fieldInRange rangeOf every termsFit fourFit paacFits ordered periodInRange figures figure tabulate tabulateFrom benchmark wc pc oc nc paenc headroom panc indexed round sheetS times periodDays monthBegins lengthAt monthLength leapYear hundredths ends Rising recordCheck validTariff validKind singleRegister economy7 multiRegister ratesWithin zeroFrom within rising
+high-record = refl

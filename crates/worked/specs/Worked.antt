@@ -1,0 +1,66 @@
+-- Worked lists of calls and their answers, read from the calls alone.
+-- Assumes nothing.
+use mathlib.Core.Path.{_≡_}
+use mathlib.Core.List.{List, [], _∷_}
+use Prim.Native.Nat.{ℕ}
+use lib.IntN.{pos}
+use Rattle.calendar.specs.declared.Period.{Period}
+use Rattle.book.specs.Calls.{Sheet, Record, Call, SET, PUT, OPEN, CLOSE, DROP, Answer, accepted, opened, refused, over}
+use Rattle.book.specs.Book.{fresh, bookAfter}
+use Rattle.queries.specs.declared.Told.the-variants.{Figures}
+use Rattle.queries.specs.Queries.{quoteOf}
+use Rattle.reference.specs.SheetS.{sheetS, periodS, flat, tiered}
+use Rattle.reference.specs.Starred.{firstOther}
+use Rattle.history.specs.History.{answersAfter}
+
+-- sheet S for October to December 2023, and for October alone
+abbrev pub quarter : Sheet
+quarter = record { fields = sheetS; period = periodS }
+
+abbrev pub october : Sheet
+october = record { fields = sheetS; period = record { year = 2023; month = 10; months = 1 } }
+
+-- no sheet at all
+abbrev pub nothing : Sheet
+nothing = record { fields = []; period = periodS }
+
+-- tariffs: well within the cap; within it for the quarter and above it for October, which has more days to the month; above it;
+-- above it in 100 kWh a month alone
+abbrev pub low : Record
+low = flat 23000 18000
+
+abbrev pub close : Record
+close = flat 23960 18000
+
+abbrev pub high : Record
+high = flat 23961 18000
+
+abbrev pub steep : Record
+steep = tiered 20000 20000 100 15000
+
+-- the answers to a list of calls from a fresh book
+abbrev pub answersTo : List Call → List Answer
+answersTo calls = answersAfter [] calls
+
+pub record Worked : Type 0 where
+  -- a sheet that makes one of two open tariffs a draft: closing it again is 12, closing the other is accepted
+  pub demoted : answersTo (SET quarter ∷ PUT 1 close ∷ PUT 2 low ∷ OPEN 1 ∷ OPEN 2 ∷ SET october ∷ CLOSE 1 ∷ CLOSE 2 ∷ [])
+      ≡ accepted ∷ accepted ∷ accepted ∷ opened 28 ∷ opened 28 ∷ accepted ∷ refused 12 ∷ accepted ∷ []
+  -- open, close, open
+  pub again : answersTo (SET quarter ∷ PUT 1 low ∷ OPEN 1 ∷ CLOSE 1 ∷ OPEN 1 ∷ []) ≡ accepted ∷ accepted ∷ opened 28 ∷ accepted ∷ opened 28 ∷ []
+  -- a refused SET in between changes nothing
+  pub refused-between : answersTo (SET quarter ∷ PUT 1 low ∷ OPEN 1 ∷ SET nothing ∷ CLOSE 1 ∷ [])
+      ≡ accepted ∷ accepted ∷ opened 28 ∷ refused 1 ∷ accepted ∷ []
+  -- codes 0 and 33
+  pub codes : answersTo (PUT 0 low ∷ OPEN 33 ∷ CLOSE 0 ∷ DROP 33 ∷ []) ≡ refused 6 ∷ refused 6 ∷ refused 6 ∷ refused 6 ∷ []
+  -- open twice: then 7, also to PUT and DROP
+  pub twice : answersTo (SET quarter ∷ PUT 32 low ∷ OPEN 32 ∷ OPEN 32 ∷ PUT 32 low ∷ DROP 32 ∷ [])
+      ≡ accepted ∷ accepted ∷ opened 28 ∷ refused 7 ∷ refused 7 ∷ refused 7 ∷ []
+  -- a tariff put over a draft; before the first sheet OPEN is 10, at an empty place 9
+  pub put-over : answersTo (PUT 1 high ∷ OPEN 1 ∷ OPEN 2 ∷ SET quarter ∷ OPEN 1 ∷ PUT 1 low ∷ OPEN 1 ∷ [])
+      ≡ accepted ∷ refused 10 ∷ refused 9 ∷ accepted ∷ over firstOther (0 ∷ 0 ∷ 0 ∷ []) (pos 133200000) ∷ accepted ∷ opened 28 ∷ []
+  -- QUOTE of the tiered tariff for 300 kWh in one month: its charge, the first figure, is below the maximum, the second
+  pub quoted : quoteOf (bookAfter fresh (SET quarter ∷ PUT 7 steep ∷ [])) 7 0 1 (300 ∷ 0 ∷ 0 ∷ []) ≡ Figures 24624000000000 27970470000000
+  -- the tiered tariff, refused at 100, 100, 100; then dropped, and the place is empty
+  pub tiers : answersTo (SET quarter ∷ PUT 7 steep ∷ OPEN 7 ∷ DROP 7 ∷ OPEN 7 ∷ [])
+      ≡ accepted ∷ accepted ∷ over firstOther (100 ∷ 100 ∷ 100 ∷ []) (pos 253530000000) ∷ accepted ∷ refused 9 ∷ []

@@ -1,0 +1,1 @@
+// Worked lists of calls on the reference sheet, with all their answers, proved on the definitions (proofs/Lists.antt).

@@ -1,0 +1,26 @@
+-- How a list of calls is written in numbers, and the number of an answer.
+-- Assumes nothing.
+use mathlib.Core.List.{List, [], _∷_, _++_}
+use Prim.Native.Nat.{ℕ, _+_}
+use lib.ListN.{length}
+use Rattle.book.specs.Calls.{Sheet, Call, SET, PUT, OPEN, CLOSE, DROP, Answer, accepted, opened, refused, over}
+
+-- SET: 0, year, month, t, the count of fields and the fields. PUT: 1, code, the count of numbers and the numbers. OPEN: 2 and the
+-- code. CLOSE: 3 and the code. DROP: 4 and the code.
+abbrev pub encodeOne : Call → List ℕ
+encodeOne (SET s) = 0 ∷ s .period .year ∷ s .period .month ∷ s .period .months ∷ length (s .fields) ∷ s .fields
+encodeOne (PUT k x) = 1 ∷ k ∷ length x ∷ x
+encodeOne (OPEN k) = 2 ∷ k ∷ []
+encodeOne (CLOSE k) = 3 ∷ k ∷ []
+encodeOne (DROP k) = 4 ∷ k ∷ []
+
+abbrev pub encode : List Call → List ℕ
+encode [] = []
+encode (c ∷ cs) = encodeOne c ++ encode cs
+
+-- accepted is 0, a refusal its number, and opened 100 and the number of cells
+abbrev pub numberOf : Answer → ℕ
+numberOf accepted = 0
+numberOf (opened n) = 100 + n
+numberOf (refused n) = n
+numberOf (over c months e) = 11

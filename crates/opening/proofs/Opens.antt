@@ -31,25 +31,9 @@ use Rattle.book.specs.Book.{placeOf, numbers, sheetIn, step, Reachable}
 use Rattle.book.specs.Sound.{tariffIn, Holds}
 use Rattle.book.specs.Promises.{Does, emptyCheck, openCheck}
 use Rattle.book.proofs.Places.{never}
+use Rattle.book.proofs.InForce.{check-refused, figures-are}
 use Rattle.book.proofs.Reached.{reached, tariff-held}
 use Rattle.book.proofs.Steps.{exceeds, open-no-sheet, open-verdict}
-
--- 10: no sheet
-sheet-refused : (t : Bool) (n : ℕ) → unless t 10 Pass ≡ Refuse n → (n ≡ 10) × (t ≡ false)
-sheet-refused true n e = never (cc)
-sheet-refused false n e = (cc, refl)
-
-pub sheet-passed : (t : Bool) → unless t 10 Pass ≡ Pass → t ≡ true
-sheet-passed true e = refl
-sheet-passed false e = never (cc)
-
--- a sheet in force has its figures beside it, and they are lawful
-module _ (b : Book) (reachable : Reachable b) (loaded : b .loaded ≡ true) where
-  in-force : (setCheck (b .fields) (b .period) ≡ Pass) × (b .benchmarks ≡ figuresOf (sheetIn b))
-  in-force = reached b reachable .figures loaded
-
-  pub figures-lawful : Lawful (b .benchmarks)
-  figures-lawful = subst Lawful (sym (in-force .1)) (lawful (b .fields) (b .period) (in-force .0))
 
 -- a place that passes 9 and 7 holds a draft
 is-draft : (s : State) → emptyCheck s ≡ Pass → openCheck s ≡ Pass → s ≡ Draft
@@ -61,7 +45,7 @@ module _ (b : Book) (k : ℕ) (p : Place) (is : placeOf (b .places) k ≡ p) (fi
   -- the answer of the check for a sheet, handed on
   pub no-sheet : codeCheck k ≡ Pass → (n : ℕ) → unless (b .loaded) 10 Pass ≡ Refuse n → step b (OPEN k) .answer ≡ refused n
   no-sheet within n e =
-      let f = sheet-refused (b .loaded) n e in
+      let f = check-refused (b .loaded) 10 n e in
       open-no-sheet b k p within is filled shut (f .1) ∙ ap refused (sym (f .0))
 
   -- the draft's tariff is valid
@@ -77,7 +61,7 @@ module _ (b : Book) (k : ℕ) (p : Place) (is : placeOf (b .places) k ≡ p) (fi
       → step b (OPEN k) .answer ≡ verdictAnswer (verdictOf (b .benchmarks .months) o)
   answers-outcome reachable loaded within x r o e v told =
       open-verdict b k p within is filled shut loaded
-      ∙ ap verdictAnswer (ap₂ verdict (sym (in-force b reachable loaded .1)) (held-tariff reachable .0 ∙ sym e) ∙ sym v ∙ ap (verdictOf (b .benchmarks .months)) told)
+      ∙ ap verdictAnswer (ap₂ verdict (sym (figures-are b reachable loaded)) (held-tariff reachable .0 ∙ sym e) ∙ sym v ∙ ap (verdictOf (b .benchmarks .months)) told)
 
 -- t months alike and zeros after them
 months-taken : (t month : ℕ) (rest : List ℕ) → take t (replicate t month ++ rest) ≡ replicate t month

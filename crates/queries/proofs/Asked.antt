@@ -20,16 +20,8 @@ use Rattle.book.proofs.Places.{never}
 use Rattle.queries.specs.declared.Told.{Told}
 use Rattle.queries.specs.declared.Told.the-variants.{Refused, Figure, Figures}
 use Rattle.queries.specs.Queries.{inRanges, refusalTold, termsIn, benchmarkOf, maximumOf}
+use Rattle.book.proofs.InForce.{check-refused}
 use Rattle.queries.proofs.InForce.{charge-is, terms-told}
-
--- a check that refuses has its test false, and one that passes has it true
-pub check-refused : (t : Bool) (k n : ℕ) → unless t k Pass ≡ Refuse n → (n ≡ k) × (t ≡ false)
-check-refused true k n e = never (cc)
-check-refused false k n e = (cc, refl)
-
-pub check-passed : (t : Bool) (k : ℕ) → unless t k Pass ≡ Pass → t ≡ true
-check-passed true k e = refl
-check-passed false k e = never (cc)
 
 -- a check that refuses, handed on
 pub hands-on : (t : Bool) (k n : ℕ) (check : Check) (r told : Told) → check ≡ unless t k Pass → check ≡ Refuse n

@@ -11,14 +11,14 @@ use Rattle.sheet.specs.Sheet.{field}
 use Rattle.benchmark.specs.declared.Benchmarks.{Benchmarks}
 use Rattle.benchmark.specs.Benchmark.{benchmark, place, benchmarksOf}
 use Rattle.benchmark.specs.Lawful.{Lawful}
-use Rattle.benchmark.proofs.Lawful.{lawful, charge-at-place}
+use Rattle.benchmark.proofs.Lawful.{charge-at-place}
 use Rattle.cap.specs.declared.Terms.{Terms}
 use Rattle.cap.specs.Judged.{Fits}
 use Rattle.book.specs.declared.Book.{Book}
 use Rattle.book.specs.Calls.{Sheet}
 use Rattle.book.specs.Checks.{figuresOf}
 use Rattle.book.specs.Book.{sheetIn, Reachable}
-use Rattle.book.proofs.Reached.{reached}
+use Rattle.book.proofs.InForce.{figures-are}
 use Rattle.queries.specs.Queries.{termsOf, termsIn}
 
 -- m of an arrangement
@@ -46,22 +46,16 @@ months-of-sheet s = refl
 
 -- they are those that the book has
 module _ (b : Book) (from : Reachable b) (loaded : b .loaded ≡ true) where
-  pub figures-are : b .benchmarks ≡ figuresOf (sheetIn b)
-  figures-are = reached b from .figures loaded .1
-
-  pub figures-lawful : Lawful (b .benchmarks)
-  figures-lawful = subst Lawful (sym figures-are) (lawful (b .fields) (b .period) (reached b from .figures loaded .0))
-
   pub months-are : b .benchmarks .months ≡ b .period .months
-  months-are = ap (λ f. f .months) figures-are ∙ months-of-sheet (sheetIn b)
+  months-are = ap (λ f. f .months) (figures-are b from loaded) ∙ months-of-sheet (sheetIn b)
 
   pub charge-is : (r a p l : ℕ) → r < 14 → a < 2 → p < 2 → l < 2
       → getD (b .benchmarks .charges) (place r a p l) 0 ≡ benchmark (b .fields) r a p l
   charge-is r a p l hr ha hp hl =
-      ap (λ f. getD (f .charges) (place r a p l) 0) figures-are ∙ charge-of-sheet (sheetIn b) r a p l hr ha hp hl
+      ap (λ f. getD (f .charges) (place r a p l) 0) (figures-are b from loaded) ∙ charge-of-sheet (sheetIn b) r a p l hr ha hp hl
 
   pub terms-told : (r a p : ℕ) → r < 14 → a < 2 → p < 2 → termsIn (b .benchmarks) r a p ≡ termsOf (sheetIn b) r a p
-  terms-told r a p hr ha hp = ap (λ f. termsIn f r a p) figures-are ∙ terms-of-sheet (sheetIn b) r a p hr ha hp
+  terms-told r a p hr ha hp = ap (λ f. termsIn f r a p) (figures-are b from loaded) ∙ terms-of-sheet (sheetIn b) r a p hr ha hp
 
 -- the terms that the code reads are those of the cell
 pub terms-read : (f : Benchmarks) (r a p : ℕ) (e : Terms)

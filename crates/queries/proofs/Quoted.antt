@@ -30,7 +30,8 @@ use Rattle.book.proofs.Reached.{reached, tariff-held}
 use Rattle.book.proofs.Steps.{code-refused, code-passed, empty-refused, empty-passed}
 use Rattle.queries.specs.declared.Told.the-variants.{Refused, Figures}
 use Rattle.queries.specs.Queries.{termsIn, cellAllowed, monthsAllowed, quotable, quoted, quoteOf}
-use Rattle.queries.proofs.InForce.{figures-are, months-are}
+use Rattle.book.proofs.InForce.{figures-are}
+use Rattle.queries.proofs.InForce.{months-are}
 
 -- a region and a method that 13 allows
 pub cell-within : (x : Tariff) (r p : ℕ) → cellAllowed x r p ≡ true → (r < 14) × (p < 2)

@@ -11,7 +11,8 @@ use Rattle.book.specs.Checks.{codeCheck}
 use Rattle.book.specs.Book.{beyond, placeOf, withState}
 use Rattle.book.specs.Promises.{emptyCheck, openCheck}
 use Rattle.book.proofs.Steps.{opens, hands-on, code-passed, index-below, read, placed, open-outside, open-empty, open-open}
-use Rattle.opening.proofs.Opens.{sheet-passed, no-sheet, figures-lawful, tariff-valid, answers-outcome, over-cap}
+use Rattle.book.proofs.InForce.{check-passed, figures-lawful}
+use Rattle.opening.proofs.Opens.{no-sheet, tariff-valid, answers-outcome, over-cap}
 use borrow.Author.Needs.{needs}
 use Rattle.opening.proofs.open.Statement.{statement}
 use Rattle.opening.proofs.open.Tie as tie
@@ -39,7 +40,7 @@ shut c = sym (c .before .before .open-check .ensures) ∙ c .enum-told5 .given .
 
 -- and there is a sheet
 loaded : (c : tie.After-enum-told7) → c .before .before .before .before .before .before .before .before .before .before .before .before .before .args .t1 .loaded ≡ true
-loaded c = sheet-passed _ (sym (c .before .before .sheet-check .ensures) ∙ c .enum-told7 .given .1)
+loaded c = check-passed _ 10 (sym (c .before .before .sheet-check .ensures) ∙ c .enum-told7 .given .1)
 
 code-check-requires : tie.Need-code-check-requires
 code-check-requires c κs = search needs

@@ -6,7 +6,8 @@ use native.Mathlib.Omega.{arith}
 use lib.Dec.{ltb}
 use Rattle.queries.specs.declared.Told.the-variants.{Figure}
 use Rattle.queries.specs.Queries.{inRanges}
-use Rattle.queries.proofs.Asked.{check-passed, hands-on, place-below, benchmark-outside, benchmark-no-sheet, benchmark-told}
+use Rattle.book.proofs.InForce.{check-passed}
+use Rattle.queries.proofs.Asked.{hands-on, place-below, benchmark-outside, benchmark-no-sheet, benchmark-told}
 use borrow.Author.Needs.{needs}
 use Rattle.queries.proofs.benchmark.Statement.{statement}
 use Rattle.queries.proofs.benchmark.Tie as tie

@@ -5,8 +5,8 @@ use mathlib.Core.Bool.{true, _&&_}
 use lib.Dec.{leb}
 use Rattle.cap.specs.Cap.{maximum}
 use Rattle.queries.specs.Queries.{inRanges}
-use Rattle.queries.proofs.InForce.{figures-lawful}
-use Rattle.queries.proofs.Asked.{check-passed, hands-on, within, total-most, maximum-outside, maximum-no-sheet, maximum-told}
+use Rattle.book.proofs.InForce.{check-passed, figures-lawful}
+use Rattle.queries.proofs.Asked.{hands-on, within, total-most, maximum-outside, maximum-no-sheet, maximum-told}
 use borrow.Author.Needs.{needs}
 use Rattle.queries.proofs.maximum.Statement.{statement}
 use Rattle.queries.proofs.maximum.Tie as tie

@@ -14,8 +14,8 @@ use Rattle.book.specs.Book.{beyond, placeOf}
 use Rattle.book.specs.Promises.{emptyCheck}
 use Rattle.book.proofs.Steps.{code-passed, index-below, read}
 use Rattle.queries.specs.Queries.{refusalTold, cellAllowed, monthsAllowed}
-use Rattle.queries.proofs.InForce.{figures-lawful}
-use Rattle.queries.proofs.Asked.{check-passed, hands-on}
+use Rattle.book.proofs.InForce.{check-passed, figures-lawful}
+use Rattle.queries.proofs.Asked.{hands-on}
 use Rattle.queries.proofs.Listed.{months-for}
 use Rattle.queries.proofs.Quoted.{cell-within, quote-outside, quote-empty, quote-no-sheet, tariff-valid, quote-disallowed, quote-told}
 use borrow.Author.Needs.{needs}

@@ -22,7 +22,7 @@ use Rattle.sheet.specs.Sheet.{Ranged, Indexed, field, fieldsInRange, termsFit}
 use Rattle.sheet.proofs.Bounds.{level-some, level-most}
 use Rattle.benchmark.specs.Benchmark.{place, benchmark, figure, figures, ordered, benchmarksOf, setCheck}
 use Rattle.benchmark.specs.Lawful.{Lawful}
-use Rattle.benchmark.proofs.Sizes.{benchmark-most}
+use Rattle.benchmark.proofs.Commons.{benchmark-most}
 
 -- a check that passes has its test true, and the checks after it pass
 unless-passes : (t : Bool) (n : ℕ) (next : Check) → unless t n next ≡ Pass → (t ≡ true) × (next ≡ Pass)

@@ -1,3 +1,4 @@
 pub mod Sizes
+pub mod Commons
 pub mod Checks
 pub mod Lawful

@@ -1,4 +1,4 @@
--- Bounds of the parts of a benchmark, and of the benchmark.
+-- Bounds of the parts of a benchmark.
 -- Assumes nothing.
 use mathlib.Core.List.{List}
 use Prim.Native.Nat.{ℕ, _+_, _*_, _<_, _≤_}
@@ -6,7 +6,7 @@ use native.Mathlib.Nat.{mul-le-mul-right}
 use native.Mathlib.Omega.{arith}
 use Rattle.sheet.specs.Sheet.{Indexed, field, round}
 use Rattle.sheet.proofs.Bounds.{ppm-most, money-most, df-most, cm-most, pc-most, oc-most, paac-most}
-use Rattle.benchmark.specs.Benchmark.{nc, wc, pc, oc, paenc, headroom, panc, benchmark}
+use Rattle.benchmark.specs.Benchmark.{nc, wc, pc, oc, paenc, headroom, panc}
 
 -- a part per million of a charge is at most the charge
 pub share-most : (p n : ℕ) → p ≤ 1000000 → round (p * n) 1000000 ≤ n
@@ -35,14 +35,3 @@ module _ (s : List ℕ) (h : Indexed s) where
   pub network-most : (r f : ℕ) → r < 14 → f < 4 → nc s r f ≤ 100000000
   unfolding nc
   network-most r f k l = money-most s (h .ranged) (37 + 4 * r + f) (omega arith) (omega arith)
-
-  pub benchmark-most : (r a p l : ℕ) → r < 14 → a < 2 → p < 2 → l < 2 → benchmark s r a p l ≤ 2400000000
-  unfolding benchmark
-  benchmark-most r a p l hr ha hp hl =
-      let f = 2 * a + l in
-      let k : f < 4 = omega arith in
-      let n : ℕ = wc s f + pc s f + oc s f in
-      let m : n ≤ 500000000 = costs-most f k in
-      let e : paenc s p n ≤ 600000000 = paenc-most p n hp m in
-      let q : nc s r f ≤ 100000000 = network-most r f hr k in
-      omega (arith, headroom-most a (n + paenc s p n) ha, panc-most p (nc s r f) hp)

@@ -1,13 +1,14 @@
 // The Benchmark Maximum Charge of 28AD.7 to 28AD.13, the 112 figures of a sheet, and SET's refusals 1 to 5.
-// Promise: `charge_at` is the paper's formula; `work_out` answers SET's first refusal, or the figures with which tariffs are judged.
+// Promise: each of the 112 figures is the paper's formula (proofs/Lawful.antt, `charge-at-place`); `work_out` answers SET's first refusal, or the figures with which tariffs are judged.
 // What the layer above may use: `Benchmarks`, `benchmarksOf` and `setCheck` of specs/Benchmark.antt, and `Lawful` of specs/Lawful.antt.
 ghost use mathlib.Core.Path.{_≡_};
 ghost use mathlib.Core.Bool.{true};
-ghost use Prim.Native.Nat.{_+_, _*_, _≤_, _<_};
+ghost use Prim.Native.Nat.{_+_, _*_, _%_, _≤_, _<_};
 ghost use lib.ListN.{length, getD};
 ghost use Rattle.calendar.specs.Calendar.{periodInRange};
 ghost use Rattle.sheet.specs.Sheet.{Ranged, Indexed, field, round};
-ghost use Rattle.benchmark.specs.Benchmark.{smncc, wc, pc, oc, paenc, benchmark, figure, figures, ordered, benchmarksOf, setCheck, noBenchmarks, workedIf};
+ghost use Rattle.benchmark.specs.Benchmark.{smncc, wc, pc, oc, paenc, nc, panc, figure, figures, ordered, benchmarksOf, setCheck, noBenchmarks, workedIf};
+ghost use Rattle.benchmark.specs.Common.{common, commonAt, commons};
 use calendar::Period;
 use refusal::Check;
 
@@ -67,26 +68,45 @@ fn paenc_of(s: &[u32], p: usize, costs: u64) -> u64
     sheet::paac_term(s, p) + ppm_of(s[18 + p], costs)
 }
 
-// The Benchmark Maximum Charge of a region, an arrangement, a method and a level.
-pub fn charge_at(s: &[u32], region: usize, arrangement: usize, method: usize, level: usize) -> u64
-    requires { ⌜ Indexed (now s) × (region < 14) × (arrangement < 2) × (method < 2) × (level < 2) ⌝ }
-    ensures { λ r. ⌜ (r ≡ benchmark (now (s .entry)) region arrangement method level) × (r ≤ 2400000000) ⌝ }
+// WC + PC + OC + PAENC + H of an arrangement, a method and a level: the part of a benchmark that is the same in all regions.
+fn common_of(s: &[u32], arrangement: usize, method: usize, level: usize) -> u64
+    requires { ⌜ Indexed (now s) × (arrangement < 2) × (method < 2) × (level < 2) ⌝ }
+    ensures { λ r. ⌜ (r ≡ common (now (s .entry)) arrangement method level) × (r ≤ 2200000000) ⌝ }
 {
-    let f = 2 * arrangement + level;
-    let known = costs(s, f);
-    let paenc = paenc_of(s, method, known);
-    let network = wide(s[37 + 4 * region + f]);
-    let shared = known + paenc;
-    let whole = shared + network;
-    whole + ppm_of(s[16 + arrangement], shared) + ppm_of(s[18 + method], network)
+    let known = costs(s, 2 * arrangement + level);
+    let shared = known + paenc_of(s, method, known);
+    shared + ppm_of(s[16 + arrangement], shared)
 }
 
-// The figure at a place of the 112.
-fn figure_at(s: &[u32], k: usize) -> u32
-    requires { ⌜ Indexed (now s) × (k < 112) ⌝ }
+// The eight of them, by arrangement, method and level.
+fn commons_of(s: &[u32]) -> [u64; 8]
+    requires { ⌜ Indexed (now s) ⌝ }
+    ensures { λ r. ⌜ r ≡ commons (now (s .entry)) ⌝ }
+{
+    let mut sums = [0u64; 8];
+    let mut j: usize = 0;
+    while j < 8 {
+        sums[j] = common_of(s, j / 4, j / 2 % 2, j % 2);
+        j += 1;
+    }
+    sums
+}
+
+// The Benchmark Maximum Charge of a region, at place f of the four and for a method, where the part that no region is in is known.
+fn charge_at(s: &[u32], shared: u64, region: usize, f: usize, method: usize) -> u64
+    requires { ⌜ Indexed (now s) × (shared ≤ 2200000000) × (region < 14) × (f < 4) × (method < 2) ⌝ }
+    ensures { λ r. ⌜ (r ≡ shared + nc (now (s .entry)) region f + panc (now (s .entry)) method (nc (now (s .entry)) region f)) × (r ≤ 2400000000) ⌝ }
+{
+    let network = wide(s[37 + 4 * region + f]);
+    shared + network + ppm_of(s[18 + method], network)
+}
+
+// The figure at a place of the 112, where the part that no region is in is known.
+fn figure_at(s: &[u32], shared: u64, k: usize) -> u32
+    requires { ⌜ Indexed (now s) × (k < 112) × (shared ≡ commonAt (now s) (k % 8)) ⌝ }
     ensures { λ r. ⌜ r ≡ figure (now (s .entry)) k ⌝ }
 {
-    charge_at(s, k / 8, k / 4 % 2, k / 2 % 2, k % 2) as u32
+    charge_at(s, shared, k / 8, 2 * (k / 4 % 2) + k % 2, k / 2 % 2) as u32
 }
 
 // The 112 figures.
@@ -94,10 +114,11 @@ fn figures_of(s: &[u32]) -> [u32; 112]
     requires { ⌜ Indexed (now s) ⌝ }
     ensures { λ r. ⌜ r ≡ figures (now (s .entry)) ⌝ }
 {
+    let sums = commons_of(s);
     let mut charges = [0u32; 112];
     let mut k: usize = 0;
     while k < 112 {
-        charges[k] = figure_at(s, k);
+        charges[k] = figure_at(s, sums[k % 8], k);
         k += 1;
     }
     charges

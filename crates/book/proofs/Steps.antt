@@ -38,7 +38,7 @@ module _ (b : Book) (c : Call) (a : Answer) where
   made e f = ap (λ d. after d b c) e ∙ ap (λ t. cond t (changed b c) b) f
 
 -- an answer without months has zeros beside it
-noughts : (n i : ℕ) → _≡_ {A = ℕ} (getD (replicate n 0) i 0) 0
+pub noughts : (n i : ℕ) → _≡_ {A = ℕ} (getD (replicate n 0) i 0) 0
 noughts zero i = refl
 noughts (suc n) zero = refl
 noughts (suc n) (suc i) = noughts n i

@@ -7,7 +7,7 @@ use native.Mathlib.Nat.{add-zero, add-suc, suc-add, zero-add, le-of-suc-le-suc}
 use native.Mathlib.Numerals.{add-one}
 use native.Mathlib.Omega.{arith}
 use lib.ListN.{length, getD, take, drop, length-take, drop-of-length-le}
-use lib.Seq.{drop-cons, getD-take, length-take-le}
+use lib.Seq.{drop-cons, ext-getD, getD-take, length-take-le}
 use Rattle.laws.specs.Notions.{tabulate, tabulateFrom}
 
 -- the rest of the first n, with one element more or none
@@ -38,3 +38,13 @@ getD-from (suc n) i f (suc k) h = rw (add-suc, ← suc-add) (getD-from n (suc i)
 pub getD-tabulate : (n : ℕ) (f : ℕ → ℕ) (k : ℕ) → k < n → getD (tabulate n f) k 0 ≡ f k
 unfolding tabulate
 getD-tabulate n f k h = rw zero-add at (getD-from n 0 f k h)
+
+-- a list that has its entry at each index is the table
+pub is-table : (n : ℕ) (f : ℕ → ℕ) (xs : List ℕ) → length xs ≡ n → ((i : ℕ) → i < n → getD xs i 0 ≡ f i) → xs ≡ tabulate n f
+is-table n f xs l h =
+    ext-getD
+    0
+    xs
+    (tabulate n f)
+    (l ∙ sym (length-tabulate n f))
+    (λ i k. h i (omega arith) ∙ sym (getD-tabulate n f i (omega arith)))

@@ -33,7 +33,7 @@ use Rattle.book.specs.Promises.{Does, emptyCheck, openCheck}
 use Rattle.book.proofs.Places.{never}
 use Rattle.book.proofs.InForce.{check-refused, figures-are}
 use Rattle.book.proofs.Reached.{reached, tariff-held}
-use Rattle.book.proofs.Steps.{exceeds, open-no-sheet, open-verdict}
+use Rattle.book.proofs.Steps.{exceeds, noughts, open-no-sheet, open-verdict}
 
 -- a place that passes 9 and 7 holds a draft
 is-draft : (s : State) → emptyCheck s ≡ Pass → openCheck s ≡ Pass → s ≡ Draft
@@ -67,18 +67,13 @@ module _ (b : Book) (k : ℕ) (p : Place) (is : placeOf (b .places) k ≡ p) (fi
 months-taken : (t month : ℕ) (rest : List ℕ) → take t (replicate t month ++ rest) ≡ replicate t month
 months-taken t month rest = take-at (replicate t month) rest t (length-replicate t month)
 
-zeros : (n i : ℕ) → _≡_ {A = ℕ} (getD (replicate n 0) i 0) 0
-zeros zero i = refl
-zeros (suc n) zero = refl
-zeros (suc n) (suc i) = zeros n i
-
 past-months : (t month : ℕ) (rest : List ℕ) → ((j : ℕ) → getD rest j 0 ≡ 0) → (i : ℕ) → t ≤ i → getD (replicate t month ++ rest) i 0 ≡ 0
 past-months zero month rest z i h = z i
 past-months (suc t) month rest z zero h = absurd (omega arith)
 past-months (suc t) month rest z (suc i) h = past-months t month rest z i (omega arith)
 
 rest-zero : (t month n i : ℕ) → t ≤ i → _≡_ {A = ℕ} (getD (replicate t month ++ drop t (replicate n 0)) i 0) 0
-rest-zero t month n = past-months t month (drop t (replicate n 0)) (λ j. getD-drop t (replicate n 0) j 0 ∙ zeros n (t + j))
+rest-zero t month n = past-months t month (drop t (replicate n 0)) (λ j. getD-drop t (replicate n 0) j 0 ∙ noughts n (t + j))
 
 -- 11, with the cell, t months alike and the excess
 pub over-cap : (b : Book) (c : Call) (r : Done) (region method t month excess : ℕ)

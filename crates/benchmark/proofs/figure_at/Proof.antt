@@ -1,19 +1,31 @@
 -- `benchmark::figure_at` meets its contract. A benchmark is at most 2,400,000,000 and fits 32 bits.
 -- Assumes nothing.
+use mathlib.Core.Path.{_≡_, sym, _∙_}
+use Prim.Native.Nat.{_%_}
+use native.Mathlib.Omega.{arith}
+use Rattle.benchmark.proofs.Commons.{figure-parts, common-at-most}
 use borrow.Author.Needs.{needs}
-use Rattle.benchmark.specs.Benchmark.{figure}
 use Rattle.benchmark.proofs.figure_at.Statement.{statement}
 use Rattle.benchmark.proofs.figure_at.Tie as tie
 
+mul-charge-at : tie.Need-mul-charge-at
+mul-charge-at c = search needs
+
+add-charge-at : tie.Need-add-charge-at
+add-charge-at c = search needs
+
 charge-at-requires : tie.Need-charge-at-requires
-charge-at-requires c κs = search needs
+charge-at-requires c κs =
+    let start = c .before in
+    let h = start .pre .0 in
+    (h, omega (arith, start .pre .2, common-at-most _ h (start .args .k % 8) (omega arith)), omega arith, omega arith, omega arith)
 
 cast-result : tie.Need-cast-result
 cast-result c = search needs
 
 returns : tie.Need-returns
-unfolding figure
-returns c = c .charge-at .ensures .0
+returns c = c .charge-at .ensures .0 ∙ rw (c .before .before .pre .2) (sym (figure-parts _ (c .before .before .args .k)))
 
 pub figure-at-spec : {M : Type 1} → statement M
-figure-at-spec = tie.close (tie.spec charge-at-requires cast-result returns)
+figure-at-spec =
+    tie.close (tie.spec mul-charge-at add-charge-at charge-at-requires cast-result returns)

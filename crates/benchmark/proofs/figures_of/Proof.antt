@@ -1,29 +1,42 @@
 -- `benchmark::figures_of` meets its contract. The loop's invariant: each place before k has its figure.
 -- Assumes nothing.
-use mathlib.Core.Path.{_≡_, sym, _∙_}
-use Prim.Native.Nat.{ℕ, _-_, _≤_, _<_}
+use mathlib.Core.Path.{_≡_, _∙_}
+use Prim.Native.Nat.{ℕ, _-_, _%_, _≤_, _<_}
 use native.Mathlib.Omega.{arith}
 use borrow.Author.Needs.{needs}
-use borrow.Author.Count.{below-more}
 use lib.ListN.{length, getD, length-replicate, length-set}
-use lib.Seq.{ext-getD, getD-set-same, getD-set-other}
-use Rattle.laws.specs.Notions.{tabulate}
-use Rattle.laws.proofs.Lists.{length-tabulate, getD-tabulate}
+use Rattle.laws.proofs.Filled.{filled-more}
+use Rattle.laws.proofs.Lists.{is-table}
 use Rattle.benchmark.specs.Benchmark.{figure, figures}
+use Rattle.benchmark.proofs.Commons.{common-at-index}
 use Rattle.benchmark.proofs.figures_of.Statement.{statement}
 use Rattle.benchmark.proofs.figures_of.Tie as tie
 
 abbrev Inv-loop : tie.InvT-loop
-Inv-loop s charges₀ k₀ charges k = (k ≤ 112) × (length charges ≡ 112) × ((i : ℕ) → i < k → getD charges i 0 ≡ figure s i)
+Inv-loop s sums charges₀ k₀ charges k = (k ≤ 112) × (length charges ≡ 112) × ((at : ℕ) → at < k → getD charges at 0 ≡ figure s at)
 
 abbrev μ-loop : tie.MeasureT-loop
-μ-loop s charges₀ k₀ charges k = 112 - k
+μ-loop s sums charges₀ k₀ charges k = 112 - k
 
 loop-holds : tie.Need-loop-holds Inv-loop μ-loop
-loop-holds c = (omega arith, simp length-replicate, λ i h. absurd (omega arith))
+loop-holds c = (omega arith, simp length-replicate, λ at h. absurd (omega arith))
+
+commons-of-requires : tie.Need-commons-of-requires Inv-loop μ-loop
+commons-of-requires c κs = search needs
+
+mul-figure-at : tie.Need-mul-figure-at Inv-loop μ-loop
+mul-figure-at c = search needs
+
+array-read-figure-at : tie.Need-array-read-figure-at Inv-loop μ-loop
+array-read-figure-at c = search needs
 
 figure-at-requires : tie.Need-figure-at-requires Inv-loop μ-loop
-figure-at-requires c κs = search needs
+figure-at-requires c κs =
+    let start = c .before .before .before .before in (
+      start .pre,
+      omega arith,
+      rw (c .before .before .commons-of .ensures) (common-at-index _ (c .before .loop .k % 8) (omega arith)),
+    )
 
 mul-charges : tie.Need-mul-charges Inv-loop μ-loop
 mul-charges c = search needs
@@ -42,24 +55,14 @@ loop-again c =
     let lp = c .before .before .loop in (
       omega arith,
       simp length-set (lp .inv .1),
-      below-more
-          _
-          (lp .k)
-          (λ i h. getD-set-other (lp .charges) (lp .k) i _ 0 (λ e. omega arith) ∙ lp .inv .2 i h)
-          (getD-set-same (lp .charges) (lp .k) _ 0 (omega arith) ∙ c .figure-at .ensures),
+      filled-more 0 (lp .charges) (lp .k) _ (figure _) (omega arith) (lp .inv .2) (c .figure-at .ensures),
     )
 
 returns : tie.Need-returns Inv-loop μ-loop
 unfolding figures
 returns c =
-    let s = c .before .before .before .args .s .now in
     let lp = c .before .loop in
-    ext-getD
-    0
-    (lp .charges)
-    (tabulate 112 (figure s))
-    (lp .inv .1 ∙ sym (length-tabulate 112 (figure s)))
-    (λ i h. lp .inv .2 i (omega arith) ∙ sym (getD-tabulate 112 (figure s) i (omega arith)))
+    is-table 112 _ (lp .charges) (lp .inv .1) (λ at h. lp .inv .2 at (omega arith))
 
 pub figures-of-spec : {M : Type 1} → statement M
 figures-of-spec =
@@ -67,7 +70,10 @@ figures-of-spec =
     (tie.spec
     Inv-loop
     μ-loop
+    commons-of-requires
     loop-holds
+    mul-figure-at
+    array-read-figure-at
     figure-at-requires
     mul-charges
     array-write-charges

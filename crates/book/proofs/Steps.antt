@@ -1,13 +1,13 @@
 -- What a call does, from what its checks answered: one law for each refusal and one for what is left.
 -- Assumes nothing.
-use mathlib.Core.Path.{_≡_, refl, sym, _∙_, ap}
+use mathlib.Core.Path.{_≡_, refl, sym, _∙_, ap, ap₂, subst}
 use mathlib.Core.Bool.{Bool, true, false, not, cond}
-use mathlib.Core.List.{List}
+use mathlib.Core.List.{List, [], _∷_}
 use mathlib.Core.Option.{some}
 use Prim.Native.Nat.{ℕ, zero, suc, _-_, _≤_, _<_}
 use native.Mathlib.Omega.{arith}
 use lib.IntN.{pos}
-use lib.ListN.{getD, replicate, take}
+use lib.ListN.{getD, set, replicate, take}
 use Rattle.refusal.specs.declared.Check.{Check}
 use Rattle.refusal.specs.declared.Check.the-variants.{Pass, Refuse}
 use Rattle.refusal.specs.Checks.{unless}
@@ -20,11 +20,12 @@ use Rattle.book.specs.declared.State.the-variants.{Empty, Draft, Open}
 use Rattle.book.specs.declared.Place.{Place}
 use Rattle.book.specs.declared.Book.{Book}
 use Rattle.book.specs.declared.Reply.the-variants.{Accepted, Opened, Refused, Over}
+use Rattle.book.specs.declared.Settled.{Settled}
 use Rattle.book.specs.declared.Done.{Done}
 use Rattle.book.specs.Calls.{Sheet, Record, Call, SET, PUT, OPEN, CLOSE, DROP, Answer, accepted, opened, refused, over, isAccepted}
 use Rattle.book.specs.Checks.{figuresOf, outside, codeCheck, setAnswer, verdictAnswer}
 use Rattle.book.specs.Book.{beyond, placeOf, numbers, heldIn, isOpenState, sheetIn, withPlace, changed, after, step}
-use Rattle.book.specs.Promises.{answerOf, monthsIn, Does, emptyCheck, openCheck, closedCheck, refusalOf}
+use Rattle.book.specs.Promises.{answerOf, monthsIn, Does, settledIn, Settles, emptyCheck, openCheck, closedCheck, refusalOf}
 use Rattle.book.proofs.Places.{never, inside}
 
 -- "Any call refused changes nothing", and the book after an accepted one
@@ -141,13 +142,43 @@ closed-passed Empty e = never (cc)
 closed-passed Draft e = never (cc)
 closed-passed Open e = refl
 
--- the place that the code reads at index code - 1, and the one that it stores there
-pub read : (ps : List Place) (k : ℕ) → 1 ≤ k → placeOf ps k ≡ getD ps (k - 1) beyond
-read ps zero h = absurd (omega arith)
-read ps (suc i) h = ap (λ j. getD ps j beyond) (omega arith)
+-- the place at the index of a code, and the book with another there
+module _ (b : Book) (k at : ℕ) (p : Place) (index : codeCheck k ≡ Pass → suc at ≡ k) (there : getD (b .places) at beyond ≡ p)
+    (within : codeCheck k ≡ Pass) where
+  pub at-code : placeOf (b .places) k ≡ p
+  at-code = subst (λ j. placeOf (b .places) j ≡ p) (index within) there
 
-pub placed : (b : Book) (k : ℕ) (p q : Place) → 1 ≤ k → p ≡ q → withPlace b (suc (k - 1)) p ≡ withPlace b k q
-placed b k p q h e = let same : suc (k - 1) ≡ k = omega arith in ap (λ j. withPlace b j p) same ∙ ap (withPlace b k) e
+  pub placed : (f : Place → Place) → withPlace b (suc at) (f p) ≡ withPlace b k (f (placeOf (b .places) k))
+  placed f = ap₂ (withPlace b) (index within) (ap f (sym at-code))
+
+-- a place stored where it was read leaves the book as it was
+set-read : (ps : List Place) (i : ℕ) (p : Place) → getD ps i beyond ≡ p → set ps i p ≡ ps
+set-read [] i p e = refl
+set-read (q ∷ ps) zero p e = ap (λ x. x ∷ ps) (sym e)
+set-read (q ∷ ps) (suc i) p e = ap (λ xs. q ∷ xs) (set-read ps i p e)
+
+abbrev withPlaces : Book → List Place → Book
+withPlaces b ps = record { loaded = b .loaded; fields = b .fields; period = b .period; benchmarks = b .benchmarks; places = ps }
+
+pub same-place : (b : Book) (at : ℕ) (p : Place) → getD (b .places) at beyond ≡ p → withPlace b (suc at) p ≡ b
+same-place b at p e = ap (withPlaces b) (set-read (b .places) at p e)
+
+-- what a call on one place comes to: refused, or accepted
+module _ (c : Call) (k : ℕ) (p : Place) (r : Settled) where
+  pub settles-refused : (check : Check) (n : ℕ) → check ≡ Refuse n
+      → (r .reply ≡ refusalOf check) × (r .months ≡ replicate 12 0) × (r .place ≡ p)
+      → ((b : Book) (at : ℕ) → (codeCheck k ≡ Pass → suc at ≡ k) → getD (b .places) at beyond ≡ p → step b c .answer ≡ refused n)
+      → Settles c k p r
+  settles-refused check n h g e b at index there =
+      hands-on b c (settledIn b at r) check n h (e b at index there) (g .0, g .1, ap (withPlace b (suc at)) (g .2) ∙ same-place b at p there)
+
+  pub settles-accepted : (q : Place) → (r .reply ≡ Accepted) × (r .months ≡ replicate 12 0) × (r .place ≡ q)
+      → ((b : Book) (at : ℕ) → (codeCheck k ≡ Pass → suc at ≡ k) → getD (b .places) at beyond ≡ p
+      → (step b c .answer ≡ accepted) × (withPlace b (suc at) q ≡ changed b c))
+      → Settles c k p r
+  settles-accepted q g e b at index there =
+      let a = e b at index there in
+      accepts b c (settledIn b at r) (a .0) (g .0, g .1, ap (withPlace b (suc at)) (g .2) ∙ a .1)
 
 -- SET
 module _ (b : Book) (s : Sheet) where

@@ -10,9 +10,9 @@ ghost use Rattle.refusal.specs.declared.Check.the-variants.{Pass};
 ghost use Rattle.refusal.specs.Checks.{unless};
 ghost use Rattle.book.specs.Calls.{PUT, CLOSE, DROP};
 ghost use Rattle.book.specs.Checks.{codeCheck};
-ghost use Rattle.book.specs.Book.{empty, fresh, stored, withState, withPlace};
+ghost use Rattle.book.specs.Book.{empty, fresh, stored, withState};
 ghost use Rattle.book.specs.Sound.{tariffIn};
-ghost use Rattle.book.specs.Promises.{emptyCheck, openCheck, closedCheck, refusalOf, Does};
+ghost use Rattle.book.specs.Promises.{emptyCheck, openCheck, closedCheck, refusalOf, Does, Settles};
 use benchmark::Benchmarks;
 use calendar::Period;
 use refusal::Check;
@@ -53,6 +53,13 @@ pub enum Reply {
     Opened(u32),
     Refused(u32),
     Over(u32, u32, u32, u64),
+}
+
+// What a call on one place comes to: its answer, the months of answer 11, and the place after the call.
+pub struct Settled {
+    pub reply: Reply,
+    pub months: [u32; 12],
+    pub place: Place,
 }
 
 // A call's answer, the months of answer 11, and the book after the call.
@@ -221,16 +228,6 @@ pub fn tariff_in(p: Place) -> Tariff
     }
 }
 
-// The book with another place at an index.
-pub fn with_place(b: Book, at: usize, p: Place) -> Book
-    requires { ⌜ at < 32 ⌝ }
-    ensures { λ r. ⌜ r ≡ withPlace b (suc at) p ⌝ }
-{
-    let mut next = b;
-    next.places[at] = p;
-    next
-}
-
 // A record of 13 numbers in a place, as a draft.
 fn draft_of(x: &[u32]) -> Place
     requires { ⌜ length (now x) ≡ 13 ⌝ }
@@ -248,65 +245,151 @@ fn draft_of(x: &[u32]) -> Place
     }
 }
 
-// PUT (code, tariff). 6, 7, 8. Else the place holds it as a draft, over any draft.
-pub fn put(b: Book, code: u32, x: &[u32]) -> Done
-    ensures { λ r. ⌜ Does b (PUT code (now (x .entry))) r ⌝ }
+// The index of a code's place. A code outside 1 to 32 has none: no call passes its check, and any index serves.
+pub fn index_of(code: u32) -> usize
+    ensures { λ r. ⌜ (r < 32) × (codeCheck code ≡ Pass → suc r ≡ code) ⌝ }
 {
     let inside = code_check(code);
     let Check::Pass = inside else {
-        return refused(b, inside);
+        return 0;
     };
-    let at = (code - 1) as usize;
-    let p = b.places[at];
+    (code - 1) as usize
+}
+
+// The answer of a check that refuses, with the place as it was.
+pub fn refuses(p: Place, check: Check) -> Settled
+    ensures { λ r. ⌜ (r .reply ≡ refusalOf check) × (r .months ≡ replicate 12 0) × (r .place ≡ p) ⌝ }
+{
+    let reply = match check {
+        Check::Pass => Reply::Accepted,
+        Check::Refuse(n) => Reply::Refused(n),
+    };
+    Settled {
+        reply,
+        months: [0; 12],
+        place: p,
+    }
+}
+
+// Accepted, with the place after it.
+fn accepts(p: Place) -> Settled
+    ensures { λ r. ⌜ (r .reply ≡ Reply.Accepted) × (r .months ≡ replicate 12 0) × (r .place ≡ p) ⌝ }
+{
+    Settled {
+        reply: Reply::Accepted,
+        months: [0; 12],
+        place: p,
+    }
+}
+
+// PUT (code, tariff). 6, 7, 8. Else the place holds it as a draft, over any draft.
+fn put_at(code: u32, p: Place, x: &[u32]) -> Settled
+    ensures { λ r. ⌜ Settles (PUT code (now (x .entry))) code p r ⌝ }
+{
+    let inside = code_check(code);
+    let Check::Pass = inside else {
+        return refuses(p, inside);
+    };
     let shut = open_check(p);
     let Check::Pass = shut else {
-        return refused(b, shut);
+        return refuses(p, shut);
     };
     let record = tariff::check(x);
     let Check::Pass = record else {
-        return refused(b, record);
+        return refuses(p, record);
     };
-    accepted(with_place(b, at, draft_of(x)))
+    accepts(draft_of(x))
+}
+
+pub fn put(b: Book, code: u32, x: &[u32]) -> Done
+    ensures { λ r. ⌜ Does b (PUT code (now (x .entry))) r ⌝ }
+{
+    let at = index_of(code);
+    let mut next = b;
+    let p = next.places[at];
+    let settled = put_at(code, p, x);
+    let reply = settled.reply;
+    let months = settled.months;
+    let place = settled.place;
+    next.places[at] = place;
+    Done {
+        reply,
+        months,
+        book: next,
+    }
 }
 
 // CLOSE (code). 6, 9, 12. Else a draft again.
-pub fn close(b: Book, code: u32) -> Done
-    ensures { λ r. ⌜ Does b (CLOSE code) r ⌝ }
+fn close_at(code: u32, p: Place) -> Settled
+    ensures { λ r. ⌜ Settles (CLOSE code) code p r ⌝ }
 {
     let inside = code_check(code);
     let Check::Pass = inside else {
-        return refused(b, inside);
+        return refuses(p, inside);
     };
-    let at = (code - 1) as usize;
-    let p = b.places[at];
     let filled = empty_check(p);
     let Check::Pass = filled else {
-        return refused(b, filled);
+        return refuses(p, filled);
     };
     let opened = closed_check(p);
     let Check::Pass = opened else {
-        return refused(b, opened);
+        return refuses(p, opened);
     };
-    accepted(with_place(b, at, in_state(p, State::Draft)))
+    accepts(in_state(p, State::Draft))
+}
+
+pub fn close(b: Book, code: u32) -> Done
+    ensures { λ r. ⌜ Does b (CLOSE code) r ⌝ }
+{
+    let at = index_of(code);
+    let mut next = b;
+    let p = next.places[at];
+    let settled = close_at(code, p);
+    let reply = settled.reply;
+    let months = settled.months;
+    let place = settled.place;
+    next.places[at] = place;
+    Done {
+        reply,
+        months,
+        book: next,
+    }
 }
 
 // DROP (code). 6, 9, 7. Else empty.
-pub fn drop(b: Book, code: u32) -> Done
-    ensures { λ r. ⌜ Does b (DROP code) r ⌝ }
+fn drop_at(code: u32, p: Place) -> Settled
+    ensures { λ r. ⌜ Settles (DROP code) code p r ⌝ }
 {
+    let nothing = empty_place();
     let inside = code_check(code);
     let Check::Pass = inside else {
-        return refused(b, inside);
+        return refuses(p, inside);
     };
-    let at = (code - 1) as usize;
-    let p = b.places[at];
-    let taken = empty_check(p);
-    let Check::Pass = taken else {
-        return refused(b, taken);
+    let filled = empty_check(p);
+    let Check::Pass = filled else {
+        return refuses(p, filled);
     };
     let closed = open_check(p);
     let Check::Pass = closed else {
-        return refused(b, closed);
+        return refuses(p, closed);
     };
-    accepted(with_place(b, at, empty_place()))
+    accepts(nothing)
+}
+
+pub fn drop(b: Book, code: u32) -> Done
+    ensures { λ r. ⌜ Does b (DROP code) r ⌝ }
+{
+    let at = index_of(code);
+    let mut next = b;
+    let p = next.places[at];
+    let settled = drop_at(code, p);
+    let reply = settled.reply;
+    let months = settled.months;
+    let place = settled.place;
+    next.places[at] = place;
+    Done {
+        reply,
+        months,
+        book: next,
+    }
 }

@@ -36,7 +36,7 @@ module _ (e : Terms) (h : Fits e) where
     standing-part = let d : 100 * (standing * e .days) ≤ 37200000000 = omega (arith, daily) in mul-le-mul scale-most d
 
   -- t months of one consumption, on either side
-  pub months-charged : (c : ℕ) → c ≤ 48000000000000000 → e .months * c ≤ 576000000000000000
+  pub months-charged : (c : ℕ) → c ≤ 76800000000000000 → e .months * c ≤ 921600000000000000
   months-charged c k = mul-le-mul (h .months-most) k
 
   pub months-capped : (c : ℕ) → c ≤ 28800000000000000 → e .months * c ≤ 345600000000000000

@@ -14,6 +14,7 @@ use Rattle.charge.specs.Charge.{monthCharge}
 use Rattle.charge.specs.Tiers.{hundredths, ends}
 use Rattle.cap.specs.declared.Terms.{Terms}
 use Rattle.cap.specs.declared.Corners.{Corners}
+use Rattle.cap.specs.declared.Share.{Share}
 use Rattle.cap.specs.declared.Judged.{Judged}
 use Rattle.cap.specs.declared.Judged.the-variants.{Within, Over}
 use Rattle.cap.specs.Cap.{monthMost, excess, Exceeds, worstMonth, worstMonths}
@@ -41,25 +42,27 @@ cornerAt t i = cond (ltb (i + 1) (t .n)) (getD (t .steps) i 0) monthMost
 
 -- corners whose numbers fit
 pub record Bounded (k : Corners) : Type 0 where
-  pub some : 1 ≤ k .count
-  pub few : k .count ≤ 5
-  pub at-most : (i : ℕ) → i < k .count → getD (k .at) i 0 ≤ monthMost
-  pub charged-most : (i : ℕ) → i < k .count → getD (k .charged) i 0 ≤ 48000000000000000
+  pub at-most : (i : ℕ) → getD (k .at) i 0 ≤ monthMost
+  pub charged-most : (i : ℕ) → getD (k .charged) i 0 ≤ 48000000000000000
 
 -- each corner stands with u there
-pub record Priced (k : Corners) (u : ℕ → ℕ) : Type 0 where
-  pub priced : (i : ℕ) → i < k .count → getD (k .charged) i 0 ≡ u (getD (k .at) i 0)
+abbrev pub Priced : Corners → (ℕ → ℕ) → Type 0
+Priced k u = (i : ℕ) → i < 4 → getD (k .charged) i 0 ≡ u (getD (k .at) i 0)
 
--- the scan of all corners, from the first on
-abbrev pub scanned : (ℕ → ℕ) → (ℕ → ℕ) → Corners → ℕ
-scanned u v k = scan u v (getD (k .at) 0 0) (drop 1 (take (k .count) (k .at)))
+-- the most that the cap allows for a month's kWh, times 1,200 × m
+abbrev pub room : ℕ
+room = 28800000000000000
+
+-- a month with its share, raised by that much
+pub record Raised (u : ℕ → ℕ) (slope : ℕ) (w : Share) : Type 0 where
+  pub within : w .month ≤ monthMost
+  pub is : w .raised + slope * w .month ≡ u (w .month) + room
 
 -- k has the corners of a tariff, each with a month's charge there times 1,200 × m
 pub record Cornered (x : Tariff) (m : ℕ) (k : Corners) : Type 0 where
   pub fit : length (hundredths x) ≡ suc (length (ends x))
   pub bounded : Bounded k
-  pub starts : getD (k .at) 0 0 ≡ 0
-  pub goes-on : drop 1 (take (k .count) (k .at)) ≡ corners (ends x)
+  pub scans : (u v : ℕ → ℕ) (b : ℕ) → scan u v b (k .at) ≡ scan u v b (corners (ends x))
   pub charges : Priced k (λ kwh. 12 * m * monthCharge x kwh)
 
 -- what an answer says of a tariff in a cell

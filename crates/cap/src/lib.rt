@@ -8,10 +8,10 @@ ghost use Prim.Native.Nat.{ℕ, _+_, _-_, _*_, _≤_, _<_};
 ghost use lib.ListN.{length, getD, take};
 ghost use Rattle.laws.specs.Notions.{sum};
 ghost use Rattle.tariff.specs.Tariff.{validTariff};
-ghost use Rattle.charge.specs.Charge.{tierCharge};
 ghost use Rattle.charge.specs.Tiers.{Sound};
 ghost use Rattle.cap.specs.Cap.{maximum, charged, capped, Months};
-ghost use Rattle.cap.specs.Judged.{Fits, cornerAt, Bounded, Priced, scanned, Cornered, Judges};
+ghost use Rattle.laws.proofs.Greatest.{better};
+ghost use Rattle.cap.specs.Judged.{Fits, scan, cornerAt, Bounded, Priced, Raised, Cornered, Judges};
 use charge::Kwh;
 use charge::Mills;
 use charge::Tiers;
@@ -32,11 +32,17 @@ pub struct Sides {
     pub capped: u64,
 }
 
-// The consumptions at which a month's share may be greatest: 0, each step and 10,000; and a month's charge at each, times 1,200 × m.
+// The consumptions, beside 0, at which a month's share may be greatest: each step, and 10,000 in every place that is left; and a
+// month's charge at each, times 1,200 × m.
 pub struct Corners {
-    pub count: usize,
-    pub at: [u64; 5],
-    pub charged: [u64; 5],
+    pub at: [u64; 4],
+    pub charged: [u64; 4],
+}
+
+// A month, and its share raised by the most that the cap allows for a month's kWh, so that it is not below 0.
+pub struct Share {
+    pub month: u64,
+    pub raised: u64,
 }
 
 // Whether a tariff exceeds in a cell, and then its worst month and the excess of t such months.
@@ -104,12 +110,12 @@ fn corner(t: Tiers, i: usize) -> u64
     if i + 1 < t.n { wide(steps[i]) } else { 10_000 }
 }
 
-// A month's charge for its kWh, times 1,200 × m.
-fn month_charged(t: Tiers, m: u64, kwh: u64) -> u64
-    requires { ⌜ Sound t × (m ≤ 20000) × (kwh ≤ 10000) ⌝ }
-    ensures { λ r. ⌜ (r ≡ 12 * m * tierCharge 0 (take (t .n) (t .rates)) (take (t .n - 1) (t .steps)) kwh) × (r ≤ 48000000000000000) ⌝ }
+// A month's charge at a corner, times 1,200 × m, from the charge at the corner before it.
+fn charged_up_to(before: u64, m: u64, rate: u64, from: u64, to: u64) -> u64
+    requires { ⌜ (before ≤ 48000000000000000) × (m ≤ 20000) × (rate ≤ 20000000) × (from ≤ to) × (to ≤ 10000) ⌝ }
+    ensures { λ r. ⌜ r ≡ before + 12 * m * (rate * (to - from)) ⌝ }
 {
-    12 * m * charge::tier_charge(t, Kwh(kwh)).0
+    before + 12 * m * (rate * (to - from))
 }
 
 // The corners of a tariff, for a sheet's m.
@@ -118,45 +124,55 @@ pub fn corners_of(x: Tariff, m: u64) -> Corners
     ensures { λ r. ⌜ Cornered x m r ⌝ }
 {
     let t = charge::tiers_of(x);
+    let rates = t.rates;
     let a = corner(t, 0);
     let b = corner(t, 1);
     let c = corner(t, 2);
     let d = corner(t, 3);
-    let at_a = month_charged(t, m, a);
-    let at_b = month_charged(t, m, b);
-    let at_c = month_charged(t, m, c);
-    let at_d = month_charged(t, m, d);
+    let at_a = charged_up_to(0, m, rates[0], 0, a);
+    let at_b = charged_up_to(at_a, m, rates[1], a, b);
+    let at_c = charged_up_to(at_b, m, rates[2], b, c);
+    let at_d = charged_up_to(at_c, m, rates[3], c, d);
     Corners {
-        count: t.n + 1,
-        at: [0, a, b, c, d],
-        charged: [0, at_a, at_b, at_c, at_d],
+        at: [a, b, c, d],
+        charged: [at_a, at_b, at_c, at_d],
     }
 }
 
-// The corner of greatest share, the first of equals, by its place.
-fn worst_corner(k: Corners, slope: u64) -> usize
-    requires { ⌜ Bounded k × (slope ≤ 2880000000000) ⌝ }
-    ensures { λ r. ⌜ (r < k .count) × ((u : ℕ → ℕ) → Priced k u → getD (k .at) r 0 ≡ scanned u (λ kwh. slope * kwh) k) ⌝ }
+// The one of greater share: a month, or a corner with what is charged there. Of equals the month.
+fn worse(best: Share, at: u64, charged: u64, slope: u64) -> Share
+    requires { ⌜ (slope ≤ 2880000000000) × (at ≤ 10000) × (charged ≤ 48000000000000000) ⌝ }
+    ensures { λ r. ⌜ ((u : ℕ → ℕ) → Raised u slope best → charged ≡ u at → Raised u slope r × (r .month ≡ better u (λ kwh. slope * kwh) at (best .month))) ⌝ }
 {
-    let count = k.count;
+    let allowed = allowed_for(Mills(slope), Kwh(at));
+    let raised = charged + 28_800_000_000_000_000 - allowed.0;
+    if best.raised < raised {
+        Share { month: at, raised }
+    } else {
+        best
+    }
+}
+
+// The corner of greatest share, or no consumption; the first of equals.
+fn worst_corner(k: Corners, slope: u64) -> Share
+    requires { ⌜ Bounded k × (slope ≤ 2880000000000) ⌝ }
+    ensures { λ r. ⌜ ((u : ℕ → ℕ) → u 0 ≡ 0 → Priced k u → Raised u slope r × (r .month ≡ scan u (λ kwh. slope * kwh) 0 (k .at))) ⌝ }
+{
     let at = k.at;
     let charged = k.charged;
-    let mut best: usize = 0;
-    let mut i: usize = 1;
-    while i < count {
-        let here = allowed_for(Mills(slope), Kwh(at[i])).0;
-        let there = allowed_for(Mills(slope), Kwh(at[best])).0;
-        if charged[best] + here < charged[i] + there {
-            best = i;
-        }
-        i += 1;
-    }
-    best
+    let none = Share {
+        month: 0,
+        raised: 28_800_000_000_000_000,
+    };
+    let first = worse(none, at[0], charged[0], slope);
+    let second = worse(first, at[1], charged[1], slope);
+    let third = worse(second, at[2], charged[2], slope);
+    worse(third, at[3], charged[3], slope)
 }
 
 // 1,200 × m times the charge of t months alike, from a month's charge times 1,200 × m.
 fn charged_by(e: Terms, standing: u32, month: u64) -> u64
-    requires { ⌜ Fits e × (standing ≤ 1000000) × (month ≤ 48000000000000000) ⌝ }
+    requires { ⌜ Fits e × (standing ≤ 1000000) × (month ≤ 76800000000000000) ⌝ }
     ensures { λ r. ⌜ r ≡ 12 * e .m * (100 * (standing * e .days)) + e .months * month ⌝ }
 {
     12 * e.m * (100 * (wide(standing) * wide(e.days))) + e.months * month
@@ -176,14 +192,11 @@ pub fn judge(x: Tariff, k: Corners, e: Terms) -> Judged
     ensures { λ r. ⌜ Judges e x r ⌝ }
 {
     let slope = 1200 * (e.upper - e.lower);
-    let w = worst_corner(k, slope);
-    let at = k.at;
-    let charges = k.charged;
-    let month = at[w];
-    let charged = charged_by(e, x.standing, charges[w]);
-    let capped = capped_by(e, allowed_for(Mills(slope), Kwh(month)).0);
+    let worst = worst_corner(k, slope);
+    let charged = charged_by(e, x.standing, worst.raised);
+    let capped = capped_by(e, 28_800_000_000_000_000);
     if capped < charged {
-        Judged::Over(month as u32, charged - capped)
+        Judged::Over(worst.month as u32, charged - capped)
     } else {
         Judged::Within
     }

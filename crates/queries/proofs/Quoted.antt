@@ -4,8 +4,10 @@ use mathlib.Core.Path.{_≡_, refl, sym, _∙_, ap, subst}
 use mathlib.Core.Bool.{Bool, true, false, _&&_}
 use mathlib.Core.List.{List}
 use mathlib.Core.Logic.{_⊎_, inl, inr}
-use Prim.Native.Nat.{ℕ, _<_}
+use Prim.Native.Nat.{ℕ, zero, suc, _-_, _≤_, _<_}
+use native.Mathlib.Omega.{arith}
 use lib.Dec.{ltb}
+use lib.ListN.{getD}
 use borrow.Author.Tests.{ltb-true}
 use Rattle.laws.proofs.Every.{and-left, and-right}
 use Rattle.refusal.specs.declared.Check.the-variants.{Pass, Refuse}
@@ -22,7 +24,7 @@ use Rattle.book.specs.declared.State.the-variants.{Empty, Draft, Open}
 use Rattle.book.specs.declared.Place.{Place}
 use Rattle.book.specs.declared.Book.{Book}
 use Rattle.book.specs.Checks.{figuresOf, outside, codeCheck}
-use Rattle.book.specs.Book.{placeOf, numbers, sheetIn, Reachable}
+use Rattle.book.specs.Book.{beyond, placeOf, numbers, sheetIn, Reachable}
 use Rattle.book.specs.Promises.{emptyCheck}
 use Rattle.book.specs.Sound.{tariffIn, Holds}
 use Rattle.book.proofs.Places.{never}
@@ -32,6 +34,11 @@ use Rattle.queries.specs.declared.Told.the-variants.{Refused, Figures}
 use Rattle.queries.specs.Queries.{termsIn, cellAllowed, monthsAllowed, quotable, quoted, quoteOf}
 use Rattle.book.proofs.InForce.{figures-are}
 use Rattle.queries.proofs.InForce.{months-are}
+
+-- the place of a code, by its index
+pub at-index : (ps : List Place) (k : ℕ) → 1 ≤ k → placeOf ps k ≡ getD ps (k - 1) beyond
+at-index ps zero h = absurd (omega arith)
+at-index ps (suc i) h = ap (λ j. getD ps j beyond) (omega arith)
 
 -- a region and a method that 13 allows
 pub cell-within : (x : Tariff) (r p : ℕ) → cellAllowed x r p ≡ true → (r < 14) × (p < 2)

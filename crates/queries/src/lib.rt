@@ -171,7 +171,8 @@ pub fn quote(b: Book, code: u32, region: u32, method: u32, months: &[u32]) -> To
         return refused(inside);
     };
     let at = (code - 1) as usize;
-    let p = b.places[at];
+    let places = b.places;
+    let p = places[at];
     let filled = book::empty_check(p);
     let Check::Pass = filled else {
         return refused(filled);

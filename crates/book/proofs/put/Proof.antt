@@ -1,156 +1,38 @@
--- `book::put` meets its contract: each check that refuses is the first that applies, and the place stored is the record as a draft.
-use mathlib.Core.Path.{_≡_, sym, _∙_}
-use Prim.Native.Nat.{_-_, _≤_, _<_}
-use lib.ListN.{getD}
-use Rattle.refusal.specs.declared.Check.the-variants.{Pass}
-use denote.Ref.{now}
-use Rattle.tariff.specs.Tariff.{recordCheck}
-use Rattle.book.specs.Checks.{codeCheck}
-use Rattle.book.specs.Book.{beyond, placeOf}
-use Rattle.book.specs.Promises.{openCheck}
-use Rattle.book.proofs.Places.{record-length}
-use Rattle.book.proofs.Steps.{accepts, hands-on, code-passed, index-below, read, placed, put-outside, put-open, put-record, puts}
+-- `book::put` meets its contract: the place of the code is read, settled and stored again.
+use mathlib.Core.Path.{refl}
 use borrow.Author.Needs.{needs}
 use Rattle.book.proofs.put.Statement.{statement}
 use Rattle.book.proofs.put.Tie as tie
 
--- the code is one of the 32
-within : (c : tie.After-enum-told) → codeCheck (c .before .before .before .before .args .code) ≡ Pass
-within c = sym (c .before .before .code-check .ensures) ∙ c .enum-told .given .1
-
-from-1 : (c : tie.After-enum-told) → 1 ≤ c .before .before .before .before .args .code
-from-1 c = code-passed _ (within c) .0
-
-below : (c : tie.After-enum-told) → c .before .before .before .before .args .code - 1 < 32
-below c = index-below _ (within c)
-
--- and the place read is that of the code
-at-code : (c : tie.After-enum-told) → let a = c .before .before .before .before .args in
-    placeOf (a .t1 .places) (a .code) ≡ getD (a .t1 .places) (a .code - 1) beyond
-at-code c = read _ _ (from-1 c)
-
--- the place is not open, and the record passes
-shut : (c : tie.After-enum-told3) → let a = c .before .before .before .before .before .before .before .before .args in
-    openCheck (getD (a .t1 .places) (a .code - 1) beyond .state) ≡ Pass
-shut c = sym (c .before .before .open-check .ensures) ∙ c .enum-told3 .given .1
-
-sound : (c : tie.After-enum-told5) → let a = c .before .before .before .before .before .before .before .before .before .before .before .args in
-    recordCheck (now (a .x)) ≡ Pass
-sound c = sym (c .before .before .check .ensures) ∙ c .enum-told5 .given .1
-
-code-check-requires : tie.Need-code-check-requires
-code-check-requires c κs = search needs
-
-enum-told : tie.Need-enum-told
-enum-told c = search needs
-
-enum-told-2 : tie.Need-enum-told-2
-enum-told-2 c = search needs
-
-refused-requires : tie.Need-refused-requires
-refused-requires c κs = search needs
-
-returns : tie.Need-returns
-returns c =
-    let told = c .before .enum-told2 .given .1 in
-    hands-on _ _ _ _ _ told
-    (put-outside _ _ _ (sym (c .before .before .before .code-check .ensures) ∙ told) _)
-    (c .refused .ensures)
-
-sub-at : tie.Need-sub-at
-sub-at c = from-1 c
-
-cast-at : tie.Need-cast-at
-cast-at c = search needs
+index-of-requires : tie.Need-index-of-requires
+index-of-requires c κs = search needs
 
 mul-p : tie.Need-mul-p
 mul-p c = search needs
 
 element-copy-out-p : tie.Need-element-copy-out-p
-element-copy-out-p c = below c
+element-copy-out-p c = search needs
 
-open-check-requires : tie.Need-open-check-requires
-open-check-requires c κs = search needs
+put-at-requires : tie.Need-put-at-requires
+put-at-requires c κs = search needs
 
-enum-told-3 : tie.Need-enum-told-3
-enum-told-3 c = search needs
+mul-place : tie.Need-mul-place
+mul-place c = search needs
 
-enum-told-4 : tie.Need-enum-told-4
-enum-told-4 c = search needs
+element-set-from-place : tie.Need-element-set-from-place
+element-set-from-place c = search needs
 
-refused-requires-2 : tie.Need-refused-requires-2
-refused-requires-2 c κs = search needs
-
-returns-2 : tie.Need-returns-2
-returns-2 c =
-    let w = c .before .before .before .before .before in
-    let told = c .before .enum-told4 .given .1 in
-    hands-on _ _ _ _ _ told
-    (put-open _ _ _ (within w) (at-code w) _ _ (sym (c .before .before .before .open-check .ensures) ∙ told))
-    (c .refused2 .ensures)
-
-check-requires : tie.Need-check-requires
-check-requires c κs = search needs
-
-enum-told-5 : tie.Need-enum-told-5
-enum-told-5 c = search needs
-
-enum-told-6 : tie.Need-enum-told-6
-enum-told-6 c = search needs
-
-refused-requires-3 : tie.Need-refused-requires-3
-refused-requires-3 c κs = search needs
-
-returns-3 : tie.Need-returns-3
-returns-3 c =
-    let q = c .before .before .before .before in
-    let w = q .before .before .before .before in
-    let told = c .before .enum-told6 .given .1 in
-    hands-on _ _ _ _ _ told
-    (put-record _ _ _ (within w) (at-code w) _ _ (shut q) (sym (c .before .before .before .check .ensures) ∙ told))
-    (c .refused3 .ensures)
-
-draft-of-requires : tie.Need-draft-of-requires
-draft-of-requires c κs = record-length _ (sound c)
-
-with-place-requires : tie.Need-with-place-requires
-with-place-requires c κs = below (c .before .before .before .before .before .before .before .before)
-
-accepted-requires : tie.Need-accepted-requires
-accepted-requires c κs = search needs
-
-returns-4 : tie.Need-returns-4
-returns-4 c =
-    let q = c .before .before .before in
-    let w = c .before .before .before .before .before .before .before .before .before .before in
-    let left = c .before .with-place .ensures ∙ placed _ _ _ _ (from-1 w) (c .before .before .draft-of .ensures) in
-    let g = c .accepted .ensures in
-    accepts _ _ _ (puts _ _ _ (within w) (at-code w) _ (shut (q .before .before .before)) (sound q)) (g .0, g .1, g .2 ∙ left)
+returns : tie.Need-returns
+returns c = c .before .before .put-at .ensures _ _ (c .before .before .before .before .index-of .ensures .1) refl
 
 pub put-spec : {M : Type 1} → statement M
 put-spec =
     tie.close
     (tie.spec
-    code-check-requires
-    enum-told
-    enum-told-2
-    refused-requires
-    returns
-    sub-at
-    cast-at
+    index-of-requires
     mul-p
     element-copy-out-p
-    open-check-requires
-    enum-told-3
-    enum-told-4
-    refused-requires-2
-    returns-2
-    check-requires
-    enum-told-5
-    enum-told-6
-    refused-requires-3
-    returns-3
-    draft-of-requires
-    with-place-requires
-    accepted-requires
-    returns-4)
+    put-at-requires
+    mul-place
+    element-set-from-place
+    returns)

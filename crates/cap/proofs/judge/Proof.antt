@@ -1,52 +1,39 @@
 -- `cap::judge` meets its contract. The best corner is the worst month, so the two sides there decide.
 -- Assumes nothing.
-use mathlib.Core.Path.{_≡_, refl, sym, _∙_, ap}
-use Prim.Native.Nat.{ℕ, _+_, _*_, _≤_, _<_}
+use mathlib.Core.Path.{_≡_, _∙_}
+use Prim.Native.Nat.{_+_, _*_, _-_, _≤_}
 use native.Mathlib.Nat.{mul-le-mul}
 use native.Mathlib.Omega.{arith}
-use lib.ListN.{getD}
 use Rattle.tariff.proofs.Validity.{valid-standing}
-use Rattle.cap.specs.declared.Judged.the-variants.{Over}
+use Rattle.charge.proofs.Months.{month-most}
 use Rattle.cap.specs.Cap.{worstMonth}
-use Rattle.cap.specs.Decided.{monthCharged, monthCapped, fixedCharged, fixedCapped}
-use Rattle.cap.specs.Judged.{Judges}
-use Rattle.cap.proofs.Sizes.{slope-most}
-use Rattle.cap.proofs.Verdicts.{corner-is-worst, over-there, within-there}
+use Rattle.cap.specs.Decided.{monthCharged, monthCapped}
+use Rattle.cap.specs.Judged.{Raised, room}
+use Rattle.cap.proofs.Sizes.{scale-most}
+use Rattle.cap.proofs.Verdicts.{corner-is-worst, nought-charged, over-there, within-there}
 use borrow.Author.Needs.{needs}
 use Rattle.cap.proofs.judge.Statement.{statement}
 use Rattle.cap.proofs.judge.Tie as tie
 
--- the corner that was found is the worst month
-at-worst : (c : tie.After-capped-by)
-    → getD (c .before .before .before .before .before .before .before .args .k .at) (c .before .before .before .before .before .worst-corner .result) 0
-    ≡ worstMonth (c .before .before .before .before .before .before .before .args .e) (c .before .before .before .before .before .before .before .args .x)
-at-worst c =
-    let st = c .before .before .before .before .before .before .before in
-    let w = c .before .before .before .before .before .worst-corner in
-    w .ensures .1 (monthCharged (st .args .e) (st .args .x)) (st .pre .1 .charges)
-    ∙ corner-is-worst (st .args .e) (st .args .x) (st .args .k) (st .pre .0) (st .pre .1)
-
-charged-worst : (c : tie.After-capped-by)
-    → let e = c .before .before .before .before .before .before .before .args .e in
-    let x = c .before .before .before .before .before .before .before .args .x in
-    c .before .before .charged-by .result ≡ fixedCharged e x + e .months * monthCharged e x (worstMonth e x)
-charged-worst c =
-    let st = c .before .before .before .before .before .before .before in
-    let w = c .before .before .before .before .before .worst-corner in
+-- the corner that was found is the worst month, with its share
+found : (c : tie.After-worst-corner) → let a = c .before .before .args in
+    Raised (monthCharged (a .e) (a .x)) (1200 * (a .e .upper - a .e .lower)) (c .worst-corner .result) × (c .worst-corner .result .month ≡ worstMonth (a .e) (a .x))
+found c =
+    let st = c .before .before in
     let e = st .args .e in
     let x = st .args .x in
-    c .before .before .charged-by .ensures
-    ∙ ap (λ (y : ℕ). fixedCharged e x + e .months * y) (st .pre .1 .charges .priced (w .result) (w .ensures .0) ∙ ap (monthCharged e x) (at-worst c))
+    let w = c .worst-corner .ensures (monthCharged e x) (nought-charged e x (st .pre .0)) (st .pre .1 .charges) in
+    (w .0, w .1 ∙ corner-is-worst e x (st .args .k) (st .pre .0) (st .pre .1))
 
-capped-worst : (c : tie.After-capped-by)
-    → let e = c .before .before .before .before .before .before .before .args .e in
-    let x = c .before .before .before .before .before .before .before .args .x in
-    c .capped-by .result ≡ fixedCapped e + e .months * monthCapped e (worstMonth e x)
-capped-worst c =
-    let st = c .before .before .before .before .before .before .before in
-    let e = st .args .e in
-    c .capped-by .ensures
-    ∙ ap (λ (y : ℕ). fixedCapped e + e .months * y) (c .before .allowed-for .ensures ∙ ap (monthCapped e) (at-worst c))
+share-is : (c : tie.After-worst-corner) → let a = c .before .before .args in
+    c .worst-corner .result .raised + monthCapped (a .e) (worstMonth (a .e) (a .x)) ≡ monthCharged (a .e) (a .x) (worstMonth (a .e) (a .x)) + room
+share-is c = let f = found c in rw (f .1) at (f .0 .is)
+
+share-most : (c : tie.After-worst-corner) → c .worst-corner .result .raised ≤ 76800000000000000
+share-most c =
+    let st = c .before .before in
+    let f = found c in
+    omega (arith, f .0 .is, mul-le-mul (scale-most (st .args .e) (st .pre .2)) (month-most (st .args .x) (c .worst-corner .result .month) (st .pre .0) (f .0 .within)))
 
 sub-slope : tie.Need-sub-slope
 sub-slope c = search needs
@@ -57,55 +44,30 @@ mul-slope c = search needs
 worst-corner-requires : tie.Need-worst-corner-requires
 worst-corner-requires c κs = search needs
 
-mul-month : tie.Need-mul-month
-mul-month c = search needs
-
-array-read-month : tie.Need-array-read-month
-array-read-month c = search needs
-
-mul-charged-by : tie.Need-mul-charged-by
-mul-charged-by c = search needs
-
-array-read-charged-by : tie.Need-array-read-charged-by
-array-read-charged-by c = search needs
-
 charged-by-requires : tie.Need-charged-by-requires
-charged-by-requires c κs =
-    let st = c .before .before .before .before in
-    let w = c .before .before .worst-corner in
-    (st .pre .2, valid-standing (st .args .x) (st .pre .0), st .pre .1 .bounded .charged-most (w .result) (w .ensures .0))
-
-allowed-for-requires : tie.Need-allowed-for-requires
-allowed-for-requires c κs =
-    let st = c .before .before .before .before .before in
-    let w = c .before .before .before .worst-corner in
-    (slope-most (st .args .e) (st .pre .2), omega (arith, st .pre .1 .bounded .at-most (w .result) (w .ensures .0)))
+charged-by-requires c κs = let st = c .before .before in (st .pre .2, valid-standing (st .args .x) (st .pre .0), share-most c)
 
 capped-by-requires : tie.Need-capped-by-requires
-capped-by-requires c κs =
-    let st = c .before .before .before .before .before .before in
-    let w = c .before .before .before .before .worst-corner in
-    (st .pre .2, rw (c .allowed-for .ensures) (mul-le-mul (slope-most (st .args .e) (st .pre .2)) (st .pre .1 .bounded .at-most (w .result) (w .ensures .0))))
+capped-by-requires c κs = search needs
 
-cast-t22 : tie.Need-cast-t22
-cast-t22 c =
-    let st = c .before .before .before .before .before .before .before .before in
-    let w = c .before .before .before .before .before .before .worst-corner in
-    omega (arith, st .pre .1 .bounded .at-most (w .result) (w .ensures .0))
+cast-t11 : tie.Need-cast-t11
+cast-t11 c = omega (arith, found (c .before .before .before .before) .0 .within)
 
-sub-t23 : tie.Need-sub-t23
-sub-t23 c = search needs
+sub-t12 : tie.Need-sub-t12
+sub-t12 c = search needs
 
 returns : tie.Need-returns
 returns c =
-    let st = c .before .before .before .before .before .before .before .before in
-    let h = over-there (st .args .e) (st .args .x) _ _ (charged-worst (c .before)) (capped-worst (c .before)) (c .if1 .taken) in
-    (h .0, at-worst (c .before), h .2)
+    let w = c .before .before .before .before in
+    let a = w .before .before .args in
+    let h = over-there (a .e) (a .x) _ _ _ (share-is w) (c .before .before .before .charged-by .ensures) (c .before .before .capped-by .ensures) (c .before .if1 .taken) in
+    (h .0, found w .1, h .2)
 
 returns-2 : tie.Need-returns-2
 returns-2 c =
-    let st = c .before .before .before .before .before .before .before .before in
-    within-there (st .args .e) (st .args .x) _ _ (charged-worst (c .before)) (capped-worst (c .before)) (c .if1 .left)
+    let w = c .before .before .before in
+    let a = w .before .before .args in
+    within-there (a .e) (a .x) _ _ _ (share-is w) (c .before .before .charged-by .ensures) (c .before .capped-by .ensures) (c .if1 .left)
 
 pub judge-spec : {M : Type 1} → statement M
 judge-spec =
@@ -114,14 +76,9 @@ judge-spec =
     sub-slope
     mul-slope
     worst-corner-requires
-    mul-month
-    array-read-month
-    mul-charged-by
-    array-read-charged-by
     charged-by-requires
-    allowed-for-requires
     capped-by-requires
-    cast-t22
-    sub-t23
+    cast-t11
+    sub-t12
     returns
     returns-2)

@@ -12,12 +12,12 @@ use Rattle.tariff.specs.Tariff.{validTariff}
 use Rattle.book.specs.Checks.{codeCheck}
 use Rattle.book.specs.Book.{beyond, placeOf}
 use Rattle.book.specs.Promises.{emptyCheck}
-use Rattle.book.proofs.Steps.{code-passed, index-below, read}
+use Rattle.book.proofs.Steps.{code-passed, index-below}
 use Rattle.queries.specs.Queries.{refusalTold, cellAllowed, monthsAllowed}
 use Rattle.book.proofs.InForce.{check-passed, figures-lawful}
 use Rattle.queries.proofs.Asked.{hands-on}
 use Rattle.queries.proofs.Listed.{months-for}
-use Rattle.queries.proofs.Quoted.{cell-within, quote-outside, quote-empty, quote-no-sheet, tariff-valid, quote-disallowed, quote-told}
+use Rattle.queries.proofs.Quoted.{at-index, cell-within, quote-outside, quote-empty, quote-no-sheet, tariff-valid, quote-disallowed, quote-told}
 use borrow.Author.Needs.{needs}
 use Rattle.queries.proofs.quote.Statement.{statement}
 use Rattle.queries.proofs.quote.Tie as tie
@@ -27,7 +27,7 @@ abbrev start : tie.After-enum-told → tie.Start
 start c = c .before .before .before .before
 
 abbrev past-6 : tie.After-enum-told3 → tie.After-enum-told
-past-6 c = c .before .before .before .before
+past-6 c = c .before .before .before .before .before
 
 abbrev past-9 : tie.After-enum-told5 → tie.After-enum-told3
 past-9 c = c .before .before .before
@@ -47,21 +47,21 @@ from-1 c = code-passed _ (inside c) .0
 
 -- and the place read is that of the code
 at-code : (c : tie.After-enum-told)
-    → placeOf (start c .args .t1 .places) (start c .args .code) ≡ getD (start c .args .t1 .places) (start c .args .code - 1) beyond
-at-code c = read _ _ (from-1 c)
+    → placeOf (start c .args .b .places) (start c .args .code) ≡ getD (start c .args .b .places) (start c .args .code - 1) beyond
+at-code c = at-index _ _ (from-1 c)
 
 -- the place is not empty
 filled : (c : tie.After-enum-told3)
-    → emptyCheck (getD (start (past-6 c) .args .t1 .places) (start (past-6 c) .args .code - 1) beyond .state) ≡ Pass
+    → emptyCheck (getD (start (past-6 c) .args .b .places) (start (past-6 c) .args .code - 1) beyond .state) ≡ Pass
 filled c = sym (c .before .before .empty-check .ensures) ∙ c .enum-told3 .given .1
 
 -- a sheet is in force
-loaded : (c : tie.After-enum-told5) → start (past-6 (past-9 c)) .args .t1 .loaded ≡ true
+loaded : (c : tie.After-enum-told5) → start (past-6 (past-9 c)) .args .b .loaded ≡ true
 loaded c = check-passed _ _ (sym (c .before .before .sheet-check .ensures) ∙ c .enum-told5 .given .1)
 
 -- cell and months are allowed
 allowed : (c : tie.After-enum-told7)
-    → (cellAllowed (c .before .before .before .tariff-in .result) (start-7 c .args .region) (start-7 c .args .method) && monthsAllowed (start-7 c .args .t1 .benchmarks .months) (now (start-7 c .args .months))) ≡ true
+    → (cellAllowed (c .before .before .before .tariff-in .result) (start-7 c .args .region) (start-7 c .args .method) && monthsAllowed (start-7 c .args .b .benchmarks .months) (now (start-7 c .args .months))) ≡ true
 allowed c = check-passed _ _ (sym (c .before .before .quote-check .ensures) ∙ c .enum-told7 .given .1)
 
 -- and the tariff is valid
@@ -97,8 +97,8 @@ cast-at c = search needs
 mul-p : tie.Need-mul-p
 mul-p c = search needs
 
-element-copy-out-p : tie.Need-element-copy-out-p
-element-copy-out-p c = index-below _ (inside c)
+array-copy-out-p : tie.Need-array-copy-out-p
+array-copy-out-p c = index-below _ (inside (c .before))
 
 empty-check-requires : tie.Need-empty-check-requires
 empty-check-requires c κs = search needs
@@ -114,7 +114,7 @@ refused-requires-2 c κs = search needs
 
 returns-2 : tie.Need-returns-2
 returns-2 c =
-    let w = c .before .before .before .before .before in
+    let w = c .before .before .before .before .before .before in
     let told = c .before .enum-told4 .given .1 in
     c .refused2 .ensures ∙ ap refusalTold told
     ∙ quote-empty _ _ _ _ _ _ (inside w) (at-code w) _ (sym (c .before .before .before .empty-check .ensures) ∙ told)
@@ -202,7 +202,7 @@ quote-spec =
     sub-at
     cast-at
     mul-p
-    element-copy-out-p
+    array-copy-out-p
     empty-check-requires
     enum-told-3
     enum-told-4

@@ -9,11 +9,10 @@ use native.Mathlib.Omega.{arith}
 use lib.IntN.{pos}
 use lib.ListN.{getD, take, drop, replicate, length-replicate}
 use lib.Seq.{take-at, getD-drop}
+use Rattle.refusal.specs.declared.Check.{Check}
 use Rattle.refusal.specs.declared.Check.the-variants.{Pass, Refuse}
 use Rattle.refusal.specs.Checks.{unless}
-use Rattle.benchmark.specs.Benchmark.{setCheck}
-use Rattle.benchmark.specs.Lawful.{Lawful}
-use Rattle.benchmark.proofs.Lawful.{lawful}
+use Rattle.benchmark.specs.declared.Benchmarks.{Benchmarks}
 use Rattle.tariff.specs.declared.Tariff.{Tariff}
 use Rattle.tariff.specs.Tariff.{tariffOf, validTariff}
 use Rattle.verdict.specs.declared.Outcome.{Outcome}
@@ -24,16 +23,18 @@ use Rattle.book.specs.declared.State.the-variants.{Empty, Draft, Open}
 use Rattle.book.specs.declared.Place.{Place}
 use Rattle.book.specs.declared.Book.{Book}
 use Rattle.book.specs.declared.Reply.the-variants.{Over}
+use Rattle.book.specs.declared.Settled.{Settled}
 use Rattle.book.specs.declared.Done.{Done}
 use Rattle.book.specs.Calls.{Call, OPEN, refused, over}
 use Rattle.book.specs.Checks.{figuresOf, codeCheck, verdictAnswer}
-use Rattle.book.specs.Book.{placeOf, numbers, sheetIn, step, Reachable}
+use Rattle.book.specs.Book.{beyond, placeOf, numbers, sheetIn, withPlace, step, Reachable}
 use Rattle.book.specs.Sound.{tariffIn, Holds}
-use Rattle.book.specs.Promises.{Does, emptyCheck, openCheck}
+use Rattle.book.specs.Promises.{Does, settledIn, emptyCheck, openCheck, refusalOf}
 use Rattle.book.proofs.Places.{never}
 use Rattle.book.proofs.InForce.{check-refused, figures-are}
 use Rattle.book.proofs.Reached.{reached, tariff-held}
-use Rattle.book.proofs.Steps.{exceeds, noughts, open-no-sheet, open-verdict}
+use Rattle.book.proofs.Steps.{hands-on, exceeds, noughts, same-place, open-no-sheet, open-verdict}
+use Rattle.opening.specs.Opens.{Opens}
 
 -- a place that passes 9 and 7 holds a draft
 is-draft : (s : State) → emptyCheck s ≡ Pass → openCheck s ≡ Pass → s ≡ Draft
@@ -52,16 +53,28 @@ module _ (b : Book) (k : ℕ) (p : Place) (is : placeOf (b .places) k ≡ p) (fi
   held-tariff : Reachable b → (tariffOf (numbers p) ≡ tariffIn p) × (validTariff (tariffOf (numbers p)) ≡ true)
   held-tariff reachable = tariff-held p (subst Holds is (reached b reachable .places k)) (inl (is-draft (p .state) filled shut))
 
-  pub tariff-valid : Reachable b → (x : Tariff) → x ≡ tariffIn p → validTariff x ≡ true
-  tariff-valid reachable x e = let h = held-tariff reachable in ap validTariff (e ∙ sym (h .0)) ∙ h .1
-
   -- and the answer is the outcome of the walk on it
-  pub answers-outcome : Reachable b → b .loaded ≡ true → codeCheck k ≡ Pass → (x : Tariff) (r o : Outcome) → x ≡ tariffIn p
-      → verdictOf (b .benchmarks .months) r ≡ verdict (b .benchmarks) x → r ≡ o
-      → step b (OPEN k) .answer ≡ verdictAnswer (verdictOf (b .benchmarks .months) o)
-  answers-outcome reachable loaded within x r o e v told =
+  pub answers-outcome : Reachable b → b .loaded ≡ true → (figures : Benchmarks) → b .benchmarks ≡ figures → codeCheck k ≡ Pass
+      → (x : Tariff) (r o : Outcome) → x ≡ tariffIn p → verdictOf (figures .months) r ≡ verdict figures x → r ≡ o
+      → step b (OPEN k) .answer ≡ verdictAnswer (verdictOf (figures .months) o)
+  answers-outcome reachable loaded figures f within x r o e v told =
       open-verdict b k p within is filled shut loaded
-      ∙ ap verdictAnswer (ap₂ verdict (sym (figures-are b reachable loaded)) (held-tariff reachable .0 ∙ sym e) ∙ sym v ∙ ap (verdictOf (b .benchmarks .months)) told)
+      ∙ ap verdictAnswer (ap₂ verdict (sym (figures-are b reachable loaded) ∙ f) (held-tariff reachable .0 ∙ sym e) ∙ sym v ∙ ap (verdictOf (figures .months)) told)
+
+-- such a place holds a valid tariff
+pub tariff-valid : (p : Place) → Holds p → emptyCheck (p .state) ≡ Pass → openCheck (p .state) ≡ Pass → (x : Tariff) → x ≡ tariffIn p
+    → validTariff x ≡ true
+tariff-valid p h filled shut x e =
+    let v = tariff-held p h (inl (is-draft (p .state) filled shut)) in
+    ap validTariff (e ∙ sym (v .0)) ∙ v .1
+
+-- a check that refuses, handed on
+pub opens-refused : (k : ℕ) (p : Place) (loaded : Bool) (figures : Benchmarks) (r : Settled) (check : Check) (n : ℕ) → check ≡ Refuse n
+    → (r .reply ≡ refusalOf check) × (r .months ≡ replicate 12 0) × (r .place ≡ p)
+    → ((b : Book) (at : ℕ) → b .loaded ≡ loaded → (codeCheck k ≡ Pass → suc at ≡ k) → getD (b .places) at beyond ≡ p → step b (OPEN k) .answer ≡ refused n)
+    → Opens k p loaded figures r
+opens-refused k p loaded figures r check n h g e b at reachable l f index there =
+    hands-on b (OPEN k) (settledIn b at r) check n h (e b at l index there) (g .0, g .1, ap (withPlace b (suc at)) (g .2) ∙ same-place b at p there)
 
 -- t months alike and zeros after them
 months-taken : (t month : ℕ) (rest : List ℕ) → take t (replicate t month ++ rest) ≡ replicate t month

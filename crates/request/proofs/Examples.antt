@@ -1,0 +1,67 @@
+-- Lines with what they ask for.
+-- Assumes nothing.
+use mathlib.Core.Path.{_≡_, refl}
+use mathlib.Core.List.{[], _∷_}
+use Rattle.lines.specs.Words.{parts, notEmpty, words}
+use Rattle.lines.specs.Numerals.{digits, valueAfter, value, numbersIn}
+use Rattle.request.specs.declared.Word.the-variants.{Set, Put, Open, Close, Drop, Benchmark, Maximum, Quote}
+use Rattle.request.specs.declared.Request.the-variants.{Nothing, Call, Unknown, NotANumber, WrongCount}
+use Rattle.request.specs.Protocol.{bytesOf, same, named, requestOf, numbersOf}
+
+blank : requestOf (bytesOf "   ") ≡ Nothing
+unfolding requestOf words parts notEmpty
+blank = refl
+
+comment : requestOf (bytesOf " #set 1 2 3") ≡ Nothing
+unfolding requestOf words parts notEmpty
+comment = refl
+
+-- spaces before, between and behind the words, and leading zeros
+spaced : requestOf (bytesOf "  set  2024 04 3 ") ≡ Call Set 3
+unfolding requestOf words parts notEmpty same named numbersIn digits valueAfter value
+spaced = refl
+
+spaced-numbers : numbersOf (bytesOf "  set  2024 04 3 ") ≡ 2024 ∷ 4 ∷ 3 ∷ []
+unfolding numbersOf words parts notEmpty valueAfter value
+spaced-numbers = refl
+
+greatest : requestOf (bytesOf "put 004294967295") ≡ Call Put 1
+unfolding requestOf words parts notEmpty same named numbersIn digits valueAfter value
+greatest = refl
+
+too-great : requestOf (bytesOf "put 7 4294967296 x") ≡ NotANumber 3
+unfolding requestOf words parts notEmpty same named numbersIn digits valueAfter value
+too-great = refl
+
+-- a tab and a carriage return are no spaces
+tab : requestOf (9 ∷ bytesOf "open 1") ≡ Unknown
+unfolding requestOf words parts notEmpty same named
+tab = refl
+
+signed : requestOf (bytesOf "open -1 2") ≡ NotANumber 2
+unfolding requestOf words parts notEmpty same named numbersIn digits valueAfter value
+signed = refl
+
+two : requestOf (bytesOf "open 1 2") ≡ WrongCount Open
+unfolding requestOf words parts notEmpty same named numbersIn digits valueAfter value
+two = refl
+
+closed : requestOf (bytesOf "close 1") ≡ Call Close 1
+unfolding requestOf words parts notEmpty same named numbersIn digits valueAfter value
+closed = refl
+
+dropped : requestOf (bytesOf "drop 1") ≡ Call Drop 1
+unfolding requestOf words parts notEmpty same named numbersIn digits valueAfter value
+dropped = refl
+
+asked : requestOf (bytesOf "benchmark 13 1 0 1") ≡ Call Benchmark 4
+unfolding requestOf words parts notEmpty same named numbersIn digits valueAfter value
+asked = refl
+
+short : requestOf (bytesOf "maximum 13 1 0") ≡ WrongCount Maximum
+unfolding requestOf words parts notEmpty same named numbersIn digits valueAfter value
+short = refl
+
+quoted : requestOf (bytesOf "quote 7 0 1") ≡ Call Quote 3
+unfolding requestOf words parts notEmpty same named numbersIn digits valueAfter value
+quoted = refl

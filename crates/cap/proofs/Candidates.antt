@@ -4,13 +4,13 @@ use mathlib.Core.Path.{_≡_, refl, sym, _∙_, ap}
 use mathlib.Core.Bool.{Bool, true, false, cond}
 use mathlib.Core.List.{List, [], _∷_, _++_}
 use Prim.Native.Nat.{ℕ, zero, suc, _+_, _*_, _-_, _<_, _≤_, min}
-use native.Mathlib.Nat.{mul-zero, mul-add, add-zero, mul-le-mul, le-of-suc-le-suc}
+use native.Mathlib.Nat.{mul-zero, add-zero, mul-le-mul, le-of-suc-le-suc}
 use native.Mathlib.Decide.{decLt}
 use native.Mathlib.Omega.{arith}
 use lib.Dec.{ltb}
 use lib.ListN.{length, getD, take, length-take}
 use lib.Seq.{getD-take, length-take-le}
-use borrow.Author.Tests.{lt-ltb, le-ltb}
+use borrow.Author.Tests.{le-ltb}
 use Rattle.laws.proofs.Bounds.{take-most}
 use Rattle.laws.proofs.Parts.{four}
 use Rattle.laws.proofs.Greatest.{better, beats}
@@ -20,9 +20,8 @@ use Rattle.charge.specs.Charge.{tierCharge, monthCharge}
 use Rattle.charge.specs.Tiers.{Rising, Sound, Tiered, hundredths, ends}
 use Rattle.charge.proofs.Months.{month-tiers}
 use Rattle.charge.proofs.TariffTiers.{charge-most}
-use Rattle.cap.specs.declared.Corners.{Corners}
 use Rattle.cap.specs.Cap.{monthMost}
-use Rattle.cap.specs.Judged.{scan, corners, cornerAt, Bounded, Priced, Cornered}
+use Rattle.cap.specs.Judged.{scan, corners, cornerAt, Cornered}
 use Rattle.cap.proofs.Scan.{nothing-below}
 
 -- rising steps end below the end

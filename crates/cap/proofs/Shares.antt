@@ -1,7 +1,6 @@
 -- Shares that are raised by as much compare as the shares do.
 -- Assumes nothing.
-use mathlib.Core.Path.{_≡_, refl, sym, _∙_, ap}
-use mathlib.Core.List.{List}
+use mathlib.Core.Path.{_≡_, sym, _∙_, ap}
 use Prim.Native.Nat.{ℕ, _+_, _*_, _-_, _<_, _≤_}
 use native.Mathlib.Nat.{mul-le-mul}
 use native.Mathlib.Omega.{arith}
@@ -11,7 +10,6 @@ use Rattle.laws.proofs.Parts.{four}
 use Rattle.laws.proofs.Greatest.{better}
 use Rattle.cap.specs.declared.Corners.{Corners}
 use Rattle.cap.specs.declared.Share.{Share}
-use Rattle.cap.specs.Cap.{monthMost}
 use Rattle.cap.specs.Judged.{scan, Priced, Raised, room}
 
 -- what the cap allows for a month's kWh is at most the room

@@ -1,6 +1,6 @@
 -- Bounds of the products that the code forms in a cell of an accepted sheet.
 -- Assumes nothing.
-use Prim.Native.Nat.{ℕ, _+_, _*_, _-_, _≤_}
+use Prim.Native.Nat.{ℕ, _*_, _-_, _≤_}
 use native.Mathlib.Nat.{mul-le-mul}
 use native.Mathlib.Omega.{arith}
 use Rattle.cap.specs.declared.Terms.{Terms}

@@ -2,10 +2,9 @@
 -- Assumes nothing.
 use mathlib.Core.Path.{_≡_, refl, sym, _∙_, ap}
 use mathlib.Core.Bool.{true}
-use Prim.Native.Nat.{ℕ, suc, _+_, _-_, _*_, _<_, _≤_}
+use Prim.Native.Nat.{ℕ, _+_, _-_, _*_, _<_, _≤_}
 use native.Mathlib.Nat.{mul-zero}
 use native.Mathlib.Omega.{arith}
-use lib.IntN.{pos, _-ℤ_}
 use Rattle.laws.proofs.Differences.{no-less}
 use Rattle.laws.proofs.Sums.{total-same}
 use Rattle.tariff.specs.declared.Tariff.{Tariff}
@@ -16,7 +15,7 @@ use Rattle.charge.proofs.TariffTiers.{tiers-rise}
 use Rattle.cap.specs.declared.Terms.{Terms}
 use Rattle.cap.specs.declared.Corners.{Corners}
 use Rattle.cap.specs.declared.Judged.the-variants.{Within, Over}
-use Rattle.cap.specs.Cap.{charged, capped, excess, Exceeds, worstMonth, worstMonths}
+use Rattle.cap.specs.Cap.{charged, capped, excess, worstMonth, worstMonths}
 use Rattle.cap.specs.Decided.{monthCharged, monthCapped, fixedCharged, fixedCapped, charged-monthly, capped-monthly, exceeds-if, only-if, worst-months}
 use Rattle.cap.specs.Judged.{Cornered, Judges, scan, room}
 use Rattle.cap.proofs.Scan.{nothing-below, scan-is-worst}

@@ -6,7 +6,7 @@ use mathlib.Core.List.{List, [], _∷_, _++_}
 use Prim.Native.Nat.{ℕ, suc, _+_, _*_, _≤_, _<_}
 use lib.Dec.{ltb}
 use lib.IntN.{pos}
-use lib.ListN.{length, getD, take, drop}
+use lib.ListN.{length, getD}
 use Rattle.laws.proofs.Greatest.{better}
 use Rattle.tariff.specs.declared.Tariff.{Tariff}
 use Rattle.charge.specs.declared.Tiers.{Tiers}

@@ -1,7 +1,7 @@
 -- `cap::corners_of` meets its contract: each corner's charge is that of the corner before it and of what lies between them.
 -- Assumes nothing.
 use mathlib.Core.Path.{_≡_}
-use Prim.Native.Nat.{_*_, _≤_}
+use Prim.Native.Nat.{_*_}
 use native.Mathlib.Omega.{arith}
 use Rattle.cap.proofs.Candidates.{by-tiers, rises, price-first, price-next, price-most, cornered}
 use borrow.Author.Needs.{needs}

@@ -1,8 +1,7 @@
 -- `cap::worst_corner` meets its contract: four looks are the scan of the corners.
 -- Assumes nothing.
 use mathlib.Core.Path.{_≡_}
-use Prim.Native.Nat.{_≤_}
-use lib.ListN.{length, getD}
+use lib.ListN.{length}
 use Rattle.cap.proofs.Shares.{four-looks}
 use borrow.Author.Needs.{needs}
 use Rattle.cap.proofs.worst_corner.Statement.{statement}

@@ -1,0 +1,74 @@
+-- `speed::opens` is safe and ends: OPEN and CLOSE each leave a book that some list of calls leaves.
+-- Assumes nothing.
+use Prim.Native.Nat.{_-_, _≤_}
+use native.Mathlib.Omega.{arith}
+use Rattle.book.specs.Book.{Reachable}
+use Rattle.speed.proofs.Kept.{kept}
+use borrow.Author.Needs.{needs}
+use Rattle.speed.proofs.opens.Statement.{statement}
+use Rattle.speed.proofs.opens.Tie as tie
+
+abbrev Inv-loop : tie.InvT-loop
+Inv-loop n b₀ x₀ sum₀ i₀ b x sum i = (i ≤ n) × Reachable b
+
+abbrev μ-loop : tie.MeasureT-loop
+μ-loop n b₀ x₀ sum₀ i₀ b x sum i = n - i
+
+with-drafts-requires : tie.Need-with-drafts-requires Inv-loop μ-loop
+with-drafts-requires c κs = search needs
+
+loop-holds : tie.Need-loop-holds Inv-loop μ-loop
+loop-holds c = search needs
+
+next-requires : tie.Need-next-requires Inv-loop μ-loop
+next-requires c κs = search needs
+
+drawn-requires : tie.Need-drawn-requires Inv-loop μ-loop
+drawn-requires c κs = search needs
+
+add-code : tie.Need-add-code Inv-loop μ-loop
+add-code c = search needs
+
+open-requires : tie.Need-open-requires Inv-loop μ-loop
+open-requires c κs = search needs
+
+close-requires : tie.Need-close-requires Inv-loop μ-loop
+close-requires c κs = search needs
+
+fold-reply-requires : tie.Need-fold-reply-requires Inv-loop μ-loop
+fold-reply-requires c κs = search needs
+
+fold-reply-requires-2 : tie.Need-fold-reply-requires-2 Inv-loop μ-loop
+fold-reply-requires-2 c κs = search needs
+
+add-i : tie.Need-add-i Inv-loop μ-loop
+add-i c = search needs
+
+loop-less : tie.Need-loop-less Inv-loop μ-loop
+loop-less c = search needs
+
+loop-again : tie.Need-loop-again Inv-loop μ-loop
+loop-again c = (omega arith, kept (kept (c .before .before .before .before .before .before .before .before .before .loop .inv .1) (c .before .before .before .before .before .«open» .ensures)) (c .before .before .before .close .ensures))
+
+returns : tie.Need-returns Inv-loop μ-loop
+returns c = search needs
+
+pub opens-spec : {M : Type 1} → statement M
+opens-spec =
+    tie.close
+    (tie.spec
+    Inv-loop
+    μ-loop
+    with-drafts-requires
+    loop-holds
+    next-requires
+    drawn-requires
+    add-code
+    open-requires
+    close-requires
+    fold-reply-requires
+    fold-reply-requires-2
+    add-i
+    loop-less
+    loop-again
+    returns)

@@ -1,0 +1,90 @@
+-- `speed::overs` is safe and ends: each OPEN leaves a book that some list of calls leaves.
+-- Assumes nothing.
+use Prim.Native.Nat.{_-_, _≤_}
+use native.Mathlib.Omega.{arith}
+use Rattle.book.specs.Book.{Reachable}
+use Rattle.speed.proofs.Kept.{kept}
+use borrow.Author.Needs.{needs}
+use Rattle.speed.proofs.overs.Statement.{statement}
+use Rattle.speed.proofs.overs.Tie as tie
+
+abbrev Inv-loop : tie.InvT-loop
+Inv-loop n b₀ x₀ sum₀ i₀ b x sum i = (i ≤ n) × Reachable b
+
+abbrev μ-loop : tie.MeasureT-loop
+μ-loop n b₀ x₀ sum₀ i₀ b x sum i = n - i
+
+with-drafts-requires : tie.Need-with-drafts-requires Inv-loop μ-loop
+with-drafts-requires c κs = search needs
+
+loop-holds : tie.Need-loop-holds Inv-loop μ-loop
+loop-holds c = search needs
+
+next-requires : tie.Need-next-requires Inv-loop μ-loop
+next-requires c κs = search needs
+
+drawn-requires : tie.Need-drawn-requires Inv-loop μ-loop
+drawn-requires c κs = search needs
+
+add-open : tie.Need-add-open Inv-loop μ-loop
+add-open c = search needs
+
+open-requires : tie.Need-open-requires Inv-loop μ-loop
+open-requires c κs = search needs
+
+fold-reply-requires : tie.Need-fold-reply-requires Inv-loop μ-loop
+fold-reply-requires c κs = search needs
+
+array-read-wide : tie.Need-array-read-wide Inv-loop μ-loop
+array-read-wide c = search needs
+
+wide-requires : tie.Need-wide-requires Inv-loop μ-loop
+wide-requires c κs = search needs
+
+fold-requires : tie.Need-fold-requires Inv-loop μ-loop
+fold-requires c κs = search needs
+
+array-read-wide-2 : tie.Need-array-read-wide-2 Inv-loop μ-loop
+array-read-wide-2 c = search needs
+
+wide-requires-2 : tie.Need-wide-requires-2 Inv-loop μ-loop
+wide-requires-2 c κs = search needs
+
+fold-requires-2 : tie.Need-fold-requires-2 Inv-loop μ-loop
+fold-requires-2 c κs = search needs
+
+add-i : tie.Need-add-i Inv-loop μ-loop
+add-i c = search needs
+
+loop-less : tie.Need-loop-less Inv-loop μ-loop
+loop-less c = search needs
+
+loop-again : tie.Need-loop-again Inv-loop μ-loop
+loop-again c = (omega arith, kept (c .before .before .before .before .before .before .before .before .before .before .before .loop .inv .1) (c .before .before .before .before .before .before .before .«open» .ensures))
+
+returns : tie.Need-returns Inv-loop μ-loop
+returns c = search needs
+
+pub overs-spec : {M : Type 1} → statement M
+overs-spec =
+    tie.close
+    (tie.spec
+    Inv-loop
+    μ-loop
+    with-drafts-requires
+    loop-holds
+    next-requires
+    drawn-requires
+    add-open
+    open-requires
+    fold-reply-requires
+    array-read-wide
+    wide-requires
+    fold-requires
+    array-read-wide-2
+    wide-requires-2
+    fold-requires-2
+    add-i
+    loop-less
+    loop-again
+    returns)

@@ -1,0 +1,62 @@
+-- `speed::with_drafts` meets its contract: each PUT leaves a book that some list of calls leaves.
+-- Assumes nothing.
+use Prim.Native.Nat.{_-_, _≤_}
+use native.Mathlib.Omega.{arith}
+use Rattle.book.specs.Book.{Reachable}
+use Rattle.speed.proofs.Kept.{kept}
+use borrow.Author.Needs.{needs}
+use Rattle.speed.proofs.with_drafts.Statement.{statement}
+use Rattle.speed.proofs.with_drafts.Tie as tie
+
+abbrev Inv-loop : tie.InvT-loop
+Inv-loop standing b₀ k₀ b k = (k ≤ 32) × Reachable b
+
+abbrev μ-loop : tie.MeasureT-loop
+μ-loop standing b₀ k₀ b k = 32 - k
+
+with-sheet-requires : tie.Need-with-sheet-requires Inv-loop μ-loop
+with-sheet-requires c κs = search needs
+
+loop-holds : tie.Need-loop-holds Inv-loop μ-loop
+loop-holds c = search needs
+
+tiered-requires : tie.Need-tiered-requires Inv-loop μ-loop
+tiered-requires c κs = search needs
+
+add-put : tie.Need-add-put Inv-loop μ-loop
+add-put c = search needs
+
+slice-aggregate-put : tie.Need-slice-aggregate-put Inv-loop μ-loop
+slice-aggregate-put c = search needs
+
+put-requires : tie.Need-put-requires Inv-loop μ-loop
+put-requires c κs = search needs
+
+add-k : tie.Need-add-k Inv-loop μ-loop
+add-k c = search needs
+
+loop-less : tie.Need-loop-less Inv-loop μ-loop
+loop-less c = search needs
+
+loop-again : tie.Need-loop-again Inv-loop μ-loop
+loop-again c = (omega arith, kept (c .before .before .before .before .before .loop .inv .1) (c .before .put .ensures))
+
+returns : tie.Need-returns Inv-loop μ-loop
+returns c = search needs
+
+pub with-drafts-spec : {M : Type 1} → statement M
+with-drafts-spec =
+    tie.close
+    (tie.spec
+    Inv-loop
+    μ-loop
+    with-sheet-requires
+    loop-holds
+    tiered-requires
+    add-put
+    slice-aggregate-put
+    put-requires
+    add-k
+    loop-less
+    loop-again
+    returns)

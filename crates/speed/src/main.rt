@@ -1,0 +1,460 @@
+// The calls of the book, timed: `speed MEASUREMENT CALLS` makes that many calls from a fixed generator and prints the checksum of
+// their answers. 0: SET with 32 open tariffs. 1: OPEN of 28 cells and 4 tiers, with the CLOSE that frees it. 2: OPEN that is over
+// the cap in the last cell. 3: QUOTE of 12 months. 4: BENCHMARK. Any other number: each of the five in turn.
+// Promise: each run is safe and ends, and every book that is handed to a call is one that some list of calls leaves.
+// tests/speed has the twin of this program on another implementation, and the runner that times both.
+ghost use mathlib.Core.Path.{_≡_};
+ghost use Prim.Native.Nat.{_≤_, _<_};
+ghost use lib.ListN.{length};
+ghost use Rattle.book.specs.Book.{Reachable};
+use book::Book;
+use book::Reply;
+use calendar::Period;
+use libc::STDOUT_FILENO;
+use queries::Told;
+
+// The reference sheet, with network costs lower by 1,000,000 in the last region.
+const SHEET: [u32; 95] = [
+    0,
+    30_000_000,
+    0,
+    36_000_000, // DF0
+    0,
+    1_000_000,
+    0,
+    1_000_000, // CM0
+    1_000_000,
+    8_000_000,
+    1_000_000,
+    8_000_000, // PC0
+    5_000_000,
+    9_000_000,
+    5_000_000,
+    9_000_000, // OC0
+    10_000,
+    10_000,
+    20_000,
+    0,
+    400_000,
+    0, // HAP, PAP, PAAC
+    1_000,
+    100,
+    100,
+    100,
+    100,
+    100,
+    100, // initial
+    1_100,
+    100,
+    105,
+    100,
+    100,
+    100,
+    100, // current
+    500_000, // SMNCC
+    2_000_000,
+    12_000_000,
+    2_000_000,
+    12_000_000, // NC
+    2_000_000,
+    12_000_000,
+    2_000_000,
+    12_000_000,
+    2_000_000,
+    12_000_000,
+    2_000_000,
+    12_000_000,
+    2_000_000,
+    12_000_000,
+    2_000_000,
+    12_000_000,
+    2_000_000,
+    12_000_000,
+    2_000_000,
+    12_000_000,
+    2_000_000,
+    12_000_000,
+    2_000_000,
+    12_000_000,
+    2_000_000,
+    12_000_000,
+    2_000_000,
+    12_000_000,
+    2_000_000,
+    12_000_000,
+    2_000_000,
+    12_000_000,
+    2_000_000,
+    12_000_000,
+    2_000_000,
+    12_000_000,
+    2_000_000,
+    12_000_000,
+    2_000_000,
+    12_000_000,
+    2_000_000,
+    12_000_000,
+    2_000_000,
+    12_000_000,
+    2_000_000,
+    12_000_000,
+    2_000_000,
+    12_000_000,
+    2_000_000,
+    12_000_000,
+    2_000_000,
+    12_000_000,
+    1_000_000,
+    11_000_000,
+    1_000_000,
+    11_000_000,
+    3_000,
+    4_000, // m
+];
+
+// The generator: the next of its states, which have 32 bits.
+fn next(x: u64) -> u64 {
+    (x % 4_294_967_296 * 1_664_525 + 1_013_904_223) % 4_294_967_296
+}
+
+// A number below n, from a state's upper bits.
+fn drawn(x: u64, n: u32) -> u32
+    requires { ⌜ 1 ≤ n ⌝ }
+    ensures { λ r. ⌜ r < n ⌝ }
+{
+    (x / 65_536 % (n as u64)) as u32
+}
+
+// One number more in a checksum.
+fn fold(sum: u64, x: u64) -> u64 {
+    std::num::wrapping_add_u64((sum << 7) | (sum >> 57), x)
+}
+
+// A number of 32 bits as one of 64.
+fn wide(x: u32) -> u64 {
+    x as u64
+}
+
+fn fold_reply(sum: u64, reply: Reply) -> u64 {
+    match reply {
+        Reply::Accepted => fold(sum, 0),
+        Reply::Opened(cells) => fold(sum, 100 + cells as u64),
+        Reply::Refused(n) => fold(sum, n as u64),
+        Reply::Over(region, method, months, excess) => {
+            let cell = fold(fold(sum, region as u64), method as u64);
+            fold(fold(cell, months as u64), excess)
+        }
+    }
+}
+
+fn fold_told(sum: u64, told: Told) -> u64 {
+    match told {
+        Told::Refused(n) => fold(sum, n as u64),
+        Told::Figure(x) => fold(sum, x),
+        Told::Figures(x, y) => fold(fold(sum, x), y),
+    }
+}
+
+// A tariff with four tiers, offered everywhere. With a standing charge of 10,000 it is within the cap in all 28 cells, and with
+// 22,000 in all but the last.
+fn tiered(k: u32, standing: u32) -> [u32; 13]
+    requires { ⌜ (k < 32) × (standing ≤ 22000) ⌝ }
+{
+    [
+        1,
+        4,
+        standing + k,
+        16_383,
+        3,
+        18_600 + k,
+        18_000 + k,
+        18_500 + k,
+        17_000 + k,
+        100 + k,
+        500 + k,
+        2_000 + k,
+        0,
+    ]
+}
+
+// Tariffs of all three kinds, within the cap everywhere.
+fn mixed(k: u32) -> [u32; 13]
+    requires { ⌜ k < 32 ⌝ }
+{
+    let kind = k % 4;
+    match kind {
+        0 => tiered(k, 10_000),
+        1 => [
+            1,
+            2,
+            10_000 + k,
+            16_383,
+            3,
+            18_600 + k,
+            18_000 + k,
+            0,
+            0,
+            100 + k,
+            0,
+            0,
+            0,
+        ],
+        2 => [
+            2,
+            2,
+            10_000 + k,
+            16_383,
+            3,
+            17_000 + k,
+            12_000 + k,
+            0,
+            0,
+            0,
+            0,
+            0,
+            0,
+        ],
+        _ => [
+            3,
+            3,
+            10_000 + k,
+            16_383,
+            3,
+            17_000 + k,
+            11_000 + k,
+            14_000 + k,
+            0,
+            50,
+            30,
+            20,
+            0,
+        ],
+    }
+}
+
+// A book with the sheet, for twelve months.
+fn with_sheet() -> Book
+    ensures { λ r. ⌜ Reachable r ⌝ }
+{
+    let sheet = SHEET;
+    let period = Period {
+        year: 2023,
+        month: 10,
+        months: 12,
+    };
+    let did = setting::set(book::fresh_book(), &sheet, period);
+    did.book
+}
+
+// A book with the sheet and 32 drafts of four tiers.
+fn with_drafts(standing: u32) -> Book
+    requires { ⌜ standing ≤ 22000 ⌝ }
+    ensures { λ r. ⌜ Reachable r ⌝ }
+{
+    let mut b = with_sheet();
+    let mut k: u32 = 0;
+    while k < 32 {
+        let record = tiered(k, standing);
+        let did = book::put(b, k + 1, &record);
+        let after = did.book;
+        b = after;
+        k += 1;
+    }
+    b
+}
+
+// A book with the sheet and 32 open tariffs of all kinds.
+fn with_open() -> Book
+    ensures { λ r. ⌜ Reachable r ⌝ }
+{
+    let mut b = with_sheet();
+    let mut k: u32 = 0;
+    while k < 32 {
+        let record = mixed(k);
+        let put = book::put(b, k + 1, &record);
+        let draft = put.book;
+        let did = opening::open(draft, k + 1);
+        let after = did.book;
+        b = after;
+        k += 1;
+    }
+    b
+}
+
+// What a book holds: the answers of CLOSE and of some BENCHMARKs.
+fn fold_book(b: Book, sum: u64) -> u64
+    requires { ⌜ Reachable b ⌝ }
+{
+    let mut total = sum;
+    let mut k: u32 = 0;
+    while k < 32 {
+        let did = book::close(b, k + 1);
+        let reply = did.reply;
+        let told = queries::benchmark(b, k % 14, k % 2, k / 2 % 2, k / 4 % 2);
+        total = fold_told(fold_reply(total, reply), told);
+        k += 1;
+    }
+    total
+}
+
+fn sets(n: u64) -> u64 {
+    let base = SHEET;
+    let mut sheet = SHEET;
+    let mut b = with_open();
+    let mut x: u64 = 1;
+    let mut sum: u64 = 0;
+    let mut i: u64 = 0;
+    while i < n {
+        x = next(x);
+        let at = 37 + drawn(x, 56) as usize;
+        x = next(x);
+        let more = drawn(x, 65_536);
+        sheet[at] = std::num::wrapping_add_u32(base[at], more);
+        sheet[29] = 1_100 + more % 16;
+        let period = Period {
+            year: 2018 + more % 80,
+            month: 1 + more % 12,
+            months: 12,
+        };
+        let did = setting::set(b, &sheet, period);
+        let reply = did.reply;
+        let after = did.book;
+        b = after;
+        sum = fold_reply(sum, reply);
+        i += 1;
+    }
+    fold_book(b, sum)
+}
+
+fn opens(n: u64) -> u64 {
+    let mut b = with_drafts(10_000);
+    let mut x: u64 = 1;
+    let mut sum: u64 = 0;
+    let mut i: u64 = 0;
+    while i < n {
+        x = next(x);
+        let code = 1 + drawn(x, 32);
+        let did = opening::open(b, code);
+        let reply = did.reply;
+        let opened = did.book;
+        let undid = book::close(opened, code);
+        let answer = undid.reply;
+        let after = undid.book;
+        b = after;
+        sum = fold_reply(fold_reply(sum, reply), answer);
+        i += 1;
+    }
+    sum
+}
+
+fn overs(n: u64) -> u64 {
+    let mut b = with_drafts(22_000);
+    let mut x: u64 = 1;
+    let mut sum: u64 = 0;
+    let mut i: u64 = 0;
+    while i < n {
+        x = next(x);
+        let did = opening::open(b, 1 + drawn(x, 32));
+        let reply = did.reply;
+        let months = did.months;
+        let after = did.book;
+        b = after;
+        sum = fold_reply(sum, reply);
+        sum = fold(fold(sum, wide(months[0])), wide(months[11]));
+        i += 1;
+    }
+    sum
+}
+
+fn quotes(n: u64) -> u64 {
+    let b = with_open();
+    let mut months = [1_000u32; 12];
+    let mut x: u64 = 1;
+    let mut sum: u64 = 0;
+    let mut i: u64 = 0;
+    while i < n {
+        x = next(x);
+        let at = drawn(x, 12) as usize;
+        let code = 1 + drawn(x, 32);
+        let region = drawn(x, 14);
+        x = next(x);
+        months[at] = drawn(x, 10_001);
+        let told = queries::quote(b, code, region, drawn(x, 2), &months);
+        sum = fold_told(sum, told);
+        i += 1;
+    }
+    sum
+}
+
+fn benchmarks(n: u64) -> u64 {
+    let b = with_open();
+    let mut x: u64 = 1;
+    let mut sum: u64 = 0;
+    let mut i: u64 = 0;
+    while i < n {
+        x = next(x);
+        let place = drawn(x, 112);
+        let told = queries::benchmark(b, place / 8, place / 4 % 2, place / 2 % 2, place % 2);
+        sum = fold_told(sum, told);
+        i += 1;
+    }
+    sum
+}
+
+// The checksum of one measurement.
+fn measured(measurement: u64, calls: u64) -> u64 {
+    match measurement {
+        0 => sets(calls),
+        1 => opens(calls),
+        2 => overs(calls),
+        3 => quotes(calls),
+        _ => benchmarks(calls),
+    }
+}
+
+fn print(sum: u64) {
+    io::print_decimal(STDOUT_FILENO, sum);
+    io::write_all(STDOUT_FILENO, b"\n");
+}
+
+fn digit(c: u8) -> u64
+    ensures { λ r. ⌜ r ≤ 9 ⌝ }
+{
+    if c < 48 {
+        return 0;
+    }
+    if 57 < c {
+        return 0;
+    }
+    (c - 48) as u64
+}
+
+// The last twelve digits of a number in text.
+fn number(text: &[u8]) -> u64 {
+    let mut n: u64 = 0;
+    let mut i: usize = 0;
+    while i < text.len() {
+        n = (10 * n + digit(text[i])) % 1_000_000_000_000;
+        i += 1;
+    }
+    n
+}
+
+// The number that stands as an argument.
+fn argument(i: usize) -> u64 {
+    let mut text = [0u8; 16];
+    let length = os::arg(i, &mut text);
+    number(&text[..length])
+}
+
+fn main() {
+    let measurement = argument(1);
+    let calls = argument(2);
+    if measurement < 5 {
+        print(measured(measurement, calls));
+        return;
+    }
+    for each in 0..5 {
+        print(measured(each, calls));
+    }
+}

@@ -1,0 +1,290 @@
+//! The book: a cost sheet, or none, and 32 places.
+
+use crate::sheet::{Breach, Sheet, SheetError, METHODS, REGIONS};
+use crate::tariff::{Tariff, MONTH_LIMIT};
+
+/// Places in the book; their codes are 1 to 32.
+pub const PLACES: usize = 32;
+
+const TOTAL_LIMIT: u32 = 120_000;
+
+/// A refusal that carries nothing but its number.
+#[derive(Clone, Copy, Debug, PartialEq, Eq, Hash)]
+#[repr(u8)]
+pub enum Refusal {
+    SheetLength = 1,
+    FieldRange = 2,
+    Period = 3,
+    TermTooHigh = 4,
+    BenchmarkFalls = 5,
+    Code = 6,
+    PlaceOpen = 7,
+    Record = 8,
+    PlaceEmpty = 9,
+    NoSheet = 10,
+    NotOpen = 12,
+    Argument = 13,
+}
+
+impl Refusal {
+    pub fn number(self) -> u32 {
+        self as u32
+    }
+}
+
+impl From<SheetError> for Refusal {
+    fn from(error: SheetError) -> Refusal {
+        match error {
+            SheetError::Length => Refusal::SheetLength,
+            SheetError::Field => Refusal::FieldRange,
+            SheetError::Period => Refusal::Period,
+            SheetError::Term => Refusal::TermTooHigh,
+            SheetError::Falling => Refusal::BenchmarkFalls,
+        }
+    }
+}
+
+/// Why a tariff was not opened.
+#[derive(Clone, Copy, Debug, PartialEq, Eq)]
+pub enum NotOpened {
+    Refused(Refusal),
+    /// Refusal 11.
+    OverCap(Breach),
+}
+
+impl NotOpened {
+    pub fn number(&self) -> u32 {
+        match self {
+            NotOpened::Refused(refusal) => refusal.number(),
+            NotOpened::OverCap(_) => 11,
+        }
+    }
+}
+
+impl From<Refusal> for NotOpened {
+    fn from(refusal: Refusal) -> NotOpened {
+        NotOpened::Refused(refusal)
+    }
+}
+
+/// A Relevant Maximum Charge: mills as a whole number over 12 x m.
+#[derive(Clone, Copy, Debug, PartialEq, Eq)]
+pub struct Maximum {
+    pub number: u64,
+    pub denominator: u32,
+}
+
+/// A charge and its maximum, both 1,200 x m times the mills.
+#[derive(Clone, Copy, Debug, PartialEq, Eq)]
+pub struct Quote {
+    pub charge: u64,
+    pub maximum: u64,
+}
+
+/// What a place holds.
+#[derive(Clone, Copy, Debug, PartialEq, Eq)]
+pub enum State {
+    Empty,
+    Draft,
+    Open,
+}
+
+#[derive(Clone, Copy, Debug)]
+enum Place {
+    Empty,
+    Draft(Tariff),
+    Open(Tariff),
+}
+
+#[derive(Clone, Debug)]
+pub struct Book {
+    sheet: Option<Sheet>,
+    places: [Place; PLACES],
+}
+
+impl Default for Book {
+    fn default() -> Book {
+        Book::new()
+    }
+}
+
+impl Book {
+    /// A fresh book: no sheet, all places empty.
+    pub fn new() -> Book {
+        Book {
+            sheet: None,
+            places: [Place::Empty; PLACES],
+        }
+    }
+
+    /// Replaces the sheet; open tariffs that exceed under it become drafts.
+    pub fn set(&mut self, year: u32, month: u32, t: u32, fields: &[u32]) -> Result<(), Refusal> {
+        let sheet = self.sheet.insert(Sheet::new(year, month, t, fields)?);
+        for place in &mut self.places {
+            if let Place::Open(tariff) = *place {
+                if sheet.first_breach(&tariff).is_some() {
+                    *place = Place::Draft(tariff);
+                }
+            }
+        }
+        Ok(())
+    }
+
+    /// Puts a tariff record into a place as a draft, over any draft.
+    pub fn put(&mut self, code: u32, numbers: &[u32]) -> Result<(), Refusal> {
+        let place = self.place_mut(code)?;
+        if let Place::Open(_) = place {
+            return Err(Refusal::PlaceOpen);
+        }
+        *place = Place::Draft(Tariff::new(numbers).ok_or(Refusal::Record)?);
+        Ok(())
+    }
+
+    /// Opens a draft that is within the cap in all its cells, and gives their number.
+    pub fn open(&mut self, code: u32) -> Result<u32, NotOpened> {
+        let index = index(code)?;
+        let tariff = match self.places[index] {
+            Place::Empty => return Err(Refusal::PlaceEmpty.into()),
+            Place::Open(_) => return Err(Refusal::PlaceOpen.into()),
+            Place::Draft(tariff) => tariff,
+        };
+        let sheet = self.sheet.as_ref().ok_or(Refusal::NoSheet)?;
+        if let Some(breach) = sheet.first_breach(&tariff) {
+            return Err(NotOpened::OverCap(breach));
+        }
+        self.places[index] = Place::Open(tariff);
+        Ok(tariff.cells())
+    }
+
+    /// Makes an open tariff a draft again.
+    pub fn close(&mut self, code: u32) -> Result<(), Refusal> {
+        let place = self.place_mut(code)?;
+        match *place {
+            Place::Empty => Err(Refusal::PlaceEmpty),
+            Place::Draft(_) => Err(Refusal::NotOpen),
+            Place::Open(tariff) => {
+                *place = Place::Draft(tariff);
+                Ok(())
+            }
+        }
+    }
+
+    /// Empties a place that holds a draft.
+    pub fn drop_code(&mut self, code: u32) -> Result<(), Refusal> {
+        let place = self.place_mut(code)?;
+        match place {
+            Place::Empty => Err(Refusal::PlaceEmpty),
+            Place::Open(_) => Err(Refusal::PlaceOpen),
+            Place::Draft(_) => {
+                *place = Place::Empty;
+                Ok(())
+            }
+        }
+    }
+
+    /// The Benchmark Maximum Charge in mills; level 0 is nil, 1 is m.
+    pub fn benchmark(
+        &self,
+        region: u32,
+        arrangement: u32,
+        method: u32,
+        level: u32,
+    ) -> Result<u32, Refusal> {
+        let (region, arrangement, method) = cell(region, arrangement, method)?;
+        if level > 1 {
+            return Err(Refusal::Argument);
+        }
+        let sheet = self.sheet.as_ref().ok_or(Refusal::NoSheet)?;
+        let benchmark = sheet.benchmark(region, arrangement, method);
+        Ok(if level == 0 {
+            benchmark.nil
+        } else {
+            benchmark.m
+        })
+    }
+
+    /// The Relevant Maximum Charge for a total consumption of the period.
+    pub fn maximum(
+        &self,
+        region: u32,
+        arrangement: u32,
+        method: u32,
+        total: u32,
+    ) -> Result<Maximum, Refusal> {
+        let (region, arrangement, method) = cell(region, arrangement, method)?;
+        if total > TOTAL_LIMIT {
+            return Err(Refusal::Argument);
+        }
+        let sheet = self.sheet.as_ref().ok_or(Refusal::NoSheet)?;
+        Ok(Maximum {
+            number: sheet.maximum(region, arrangement, method, u64::from(total)),
+            denominator: 12 * sheet.m(arrangement),
+        })
+    }
+
+    /// The charge of a tariff, draft or open, for a list of months, and its maximum.
+    pub fn quote(
+        &self,
+        code: u32,
+        region: u32,
+        method: u32,
+        months: &[u32],
+    ) -> Result<Quote, Refusal> {
+        let tariff = match &self.places[index(code)?] {
+            Place::Empty => return Err(Refusal::PlaceEmpty),
+            Place::Draft(tariff) | Place::Open(tariff) => tariff,
+        };
+        let sheet = self.sheet.as_ref().ok_or(Refusal::NoSheet)?;
+        if !tariff.offers_region(region)
+            || !tariff.offers_method(method)
+            || months.len() != sheet.t as usize
+            || months.iter().any(|&kwh| kwh > MONTH_LIMIT)
+        {
+            return Err(Refusal::Argument);
+        }
+        let arrangement = tariff.arrangement();
+        let standing = 100 * u64::from(tariff.standing()) * u64::from(sheet.days);
+        let units: u64 = months.iter().map(|&kwh| tariff.month_charge(kwh)).sum();
+        let total = months.iter().map(|&kwh| u64::from(kwh)).sum();
+        let maximum = sheet.maximum(region as usize, arrangement, method as usize, total);
+        Ok(Quote {
+            charge: 12 * u64::from(sheet.m(arrangement)) * (standing + units),
+            maximum: 100 * maximum,
+        })
+    }
+
+    /// What the place of a code holds; `None` for a code outside 1 to 32.
+    pub fn state(&self, code: u32) -> Option<State> {
+        let index = index(code).ok()?;
+        Some(match self.places[index] {
+            Place::Empty => State::Empty,
+            Place::Draft(_) => State::Draft,
+            Place::Open(_) => State::Open,
+        })
+    }
+
+    /// The months t of the sheet's period, if there is a sheet.
+    pub fn t(&self) -> Option<u32> {
+        self.sheet.as_ref().map(|sheet| sheet.t)
+    }
+
+    fn place_mut(&mut self, code: u32) -> Result<&mut Place, Refusal> {
+        Ok(&mut self.places[index(code)?])
+    }
+}
+
+fn index(code: u32) -> Result<usize, Refusal> {
+    let index = (code as usize).wrapping_sub(1);
+    if index < PLACES {
+        Ok(index)
+    } else {
+        Err(Refusal::Code)
+    }
+}
+
+fn cell(region: u32, arrangement: u32, method: u32) -> Result<(usize, usize, usize), Refusal> {
+    if region as usize >= REGIONS || arrangement > 1 || method as usize >= METHODS {
+        return Err(Refusal::Argument);
+    }
+    Ok((region as usize, arrangement as usize, method as usize))
+}

@@ -1,0 +1,289 @@
+//! The desk: one call a line in, one answer a line out.
+
+use std::io::BufRead;
+
+use crate::book::{Book, NotOpened, Refusal};
+
+/// The longest line taken, its line feed not counted.
+pub const LINE_LIMIT: usize = 16_384;
+
+#[derive(Clone, Copy)]
+enum Call {
+    Set,
+    Put,
+    Open,
+    Close,
+    Drop,
+    Benchmark,
+    Maximum,
+    Quote,
+}
+
+impl Call {
+    fn from_word(word: &[u8]) -> Option<Call> {
+        Some(match word {
+            b"set" => Call::Set,
+            b"put" => Call::Put,
+            b"open" => Call::Open,
+            b"close" => Call::Close,
+            b"drop" => Call::Drop,
+            b"benchmark" => Call::Benchmark,
+            b"maximum" => Call::Maximum,
+            b"quote" => Call::Quote,
+            _ => return None,
+        })
+    }
+
+    fn takes(self) -> &'static str {
+        match self {
+            Call::Set => "set takes at least 3 numbers",
+            Call::Put => "put takes at least 1 number",
+            Call::Open => "open takes 1 number",
+            Call::Close => "close takes 1 number",
+            Call::Drop => "drop takes 1 number",
+            Call::Benchmark => "benchmark takes 4 numbers",
+            Call::Maximum => "maximum takes 4 numbers",
+            Call::Quote => "quote takes at least 3 numbers",
+        }
+    }
+}
+
+/// A line that is no call.
+enum LineError {
+    TooLong,
+    UnknownCall,
+    NotANumber(usize),
+    Count(Call),
+}
+
+/// A book behind lines of text.
+pub struct Desk {
+    book: Book,
+    lines: u64,
+    numbers: Vec<u32>,
+    /// The beginning of a line whose end has not come in yet.
+    begun: Vec<u8>,
+    too_long: bool,
+}
+
+impl Default for Desk {
+    fn default() -> Desk {
+        Desk::new()
+    }
+}
+
+impl Desk {
+    pub fn new() -> Desk {
+        Desk {
+            book: Book::new(),
+            lines: 0,
+            numbers: Vec::with_capacity(LINE_LIMIT / 2),
+            begun: Vec::with_capacity(LINE_LIMIT),
+            too_long: false,
+        }
+    }
+
+    pub fn book(&self) -> &Book {
+        &self.book
+    }
+
+    /// Takes a piece of the input, which may end inside a line, and answers its whole lines.
+    pub fn feed(&mut self, mut input: &[u8], out: &mut Vec<u8>) {
+        while !input.is_empty() {
+            let piece = input;
+            let used = input
+                .skip_until(b'\n')
+                .expect("reading from memory does not fail");
+            let Some(end) = piece[..used].strip_suffix(b"\n") else {
+                self.begin(&piece[..used]);
+                return;
+            };
+            if self.begun.is_empty() && !self.too_long {
+                self.line(end, out);
+            } else {
+                self.begin(end);
+                self.finish(out);
+            }
+        }
+    }
+
+    /// The end of the input: a line begun and not ended is taken as it stands.
+    pub fn finish(&mut self, out: &mut Vec<u8>) {
+        if self.too_long {
+            self.too_long = false;
+            self.lines += 1;
+            self.error(LineError::TooLong, out);
+        } else if !self.begun.is_empty() {
+            let line = std::mem::take(&mut self.begun);
+            self.line(&line, out);
+            self.begun = line;
+        }
+        self.begun.clear();
+    }
+
+    fn begin(&mut self, piece: &[u8]) {
+        if self.too_long || self.begun.len() + piece.len() > LINE_LIMIT {
+            self.too_long = true;
+            self.begun.clear();
+        } else {
+            self.begun.extend_from_slice(piece);
+        }
+    }
+
+    /// One whole line, without its line feed.
+    pub fn line(&mut self, line: &[u8], out: &mut Vec<u8>) {
+        self.lines += 1;
+        if let Err(error) = self.answer(line, out) {
+            self.error(error, out);
+        }
+    }
+
+    fn answer(&mut self, line: &[u8], out: &mut Vec<u8>) -> Result<(), LineError> {
+        if line.len() > LINE_LIMIT {
+            return Err(LineError::TooLong);
+        }
+        let line = line.strip_suffix(b"\r").unwrap_or(line);
+        let Some(start) = line.iter().position(|&byte| byte != b' ') else {
+            return Ok(());
+        };
+        if line[start] == b'#' {
+            return Ok(());
+        }
+        let line = &line[start..];
+        let end = line.iter().position(|&byte| byte == b' ');
+        let (word, rest) = line.split_at(end.unwrap_or(line.len()));
+        let call = Call::from_word(word).ok_or(LineError::UnknownCall)?;
+        read_numbers(rest, &mut self.numbers)?;
+        self.call(call, out)
+    }
+
+    fn call(&mut self, call: Call, out: &mut Vec<u8>) -> Result<(), LineError> {
+        let book = &mut self.book;
+        match (call, &self.numbers[..]) {
+            (Call::Set, &[year, month, t, ref fields @ ..]) => {
+                accepted(book.set(year, month, t, fields), out)
+            }
+            (Call::Put, &[code, ref record @ ..]) => accepted(book.put(code, record), out),
+            (Call::Open, &[code]) => match book.open(code) {
+                Ok(cells) => values(&[u64::from(cells)], out),
+                Err(NotOpened::Refused(refusal)) => refused(refusal, out),
+                Err(NotOpened::OverCap(breach)) => {
+                    out.extend_from_slice(b"refused 11");
+                    write_number(u64::from(breach.region), out);
+                    write_number(u64::from(breach.method), out);
+                    write_number(breach.excess, out);
+                    for &kwh in breach.months() {
+                        write_number(u64::from(kwh), out);
+                    }
+                    out.push(b'\n');
+                }
+            },
+            (Call::Close, &[code]) => accepted(book.close(code), out),
+            (Call::Drop, &[code]) => accepted(book.drop_code(code), out),
+            (Call::Benchmark, &[region, arrangement, method, level]) => {
+                match book.benchmark(region, arrangement, method, level) {
+                    Ok(charge) => values(&[u64::from(charge)], out),
+                    Err(refusal) => refused(refusal, out),
+                }
+            }
+            (Call::Maximum, &[region, arrangement, method, total]) => {
+                match book.maximum(region, arrangement, method, total) {
+                    Ok(maximum) => {
+                        values(&[maximum.number, u64::from(maximum.denominator)], out);
+                    }
+                    Err(refusal) => refused(refusal, out),
+                }
+            }
+            (Call::Quote, &[code, region, method, ref months @ ..]) => {
+                match book.quote(code, region, method, months) {
+                    Ok(quote) => values(&[quote.charge, quote.maximum], out),
+                    Err(refusal) => refused(refusal, out),
+                }
+            }
+            _ => return Err(LineError::Count(call)),
+        }
+        Ok(())
+    }
+
+    fn error(&self, error: LineError, out: &mut Vec<u8>) {
+        out.extend_from_slice(b"error line");
+        write_number(self.lines, out);
+        out.extend_from_slice(b": ");
+        match error {
+            LineError::TooLong => out.extend_from_slice(b"longer than 16384 bytes"),
+            LineError::UnknownCall => out.extend_from_slice(b"unknown call"),
+            LineError::NotANumber(word) => {
+                out.extend_from_slice(b"word");
+                write_number(word as u64, out);
+                out.extend_from_slice(b" is not a number from 0 to 4294967295");
+            }
+            LineError::Count(call) => out.extend_from_slice(call.takes().as_bytes()),
+        }
+        out.push(b'\n');
+    }
+}
+
+/// Reads the words after the call's own into `numbers`.
+fn read_numbers(rest: &[u8], numbers: &mut Vec<u32>) -> Result<(), LineError> {
+    numbers.clear();
+    let mut bytes = rest.iter();
+    // The value of the word being read, if one has begun.
+    let mut word: Option<u32> = None;
+    loop {
+        match bytes.next() {
+            Some(&byte @ b'0'..=b'9') => {
+                let value = u64::from(word.unwrap_or(0)) * 10 + u64::from(byte - b'0');
+                match u32::try_from(value) {
+                    Ok(value) => word = Some(value),
+                    Err(_) => break,
+                }
+            }
+            Some(b' ') => numbers.extend(word.take()),
+            None => {
+                numbers.extend(word);
+                return Ok(());
+            }
+            Some(_) => break,
+        }
+    }
+    // The call's own word is word 1.
+    Err(LineError::NotANumber(numbers.len() + 2))
+}
+
+fn accepted(answer: Result<(), Refusal>, out: &mut Vec<u8>) {
+    match answer {
+        Ok(()) => out.extend_from_slice(b"ok\n"),
+        Err(refusal) => refused(refusal, out),
+    }
+}
+
+fn refused(refusal: Refusal, out: &mut Vec<u8>) {
+    out.extend_from_slice(b"refused");
+    write_number(u64::from(refusal.number()), out);
+    out.push(b'\n');
+}
+
+fn values(values: &[u64], out: &mut Vec<u8>) {
+    out.extend_from_slice(b"ok");
+    for &value in values {
+        write_number(value, out);
+    }
+    out.push(b'\n');
+}
+
+/// A space and the number in decimal.
+fn write_number(mut value: u64, out: &mut Vec<u8>) {
+    let mut digits = [0; 21];
+    let mut start = digits.len();
+    loop {
+        start -= 1;
+        digits[start] = b'0' + (value % 10) as u8;
+        value /= 10;
+        if value == 0 {
+            break;
+        }
+    }
+    start -= 1;
+    digits[start] = b' ';
+    out.extend_from_slice(&digits[start..]);
+}

@@ -1,0 +1,20 @@
+//! A tariff book under the cap of draft condition 28AD.
+//!
+//! Charges are counted in mills (a thousandth of a penny), consumption in kWh.
+//! The book holds a cost sheet with its period, or none, and 32 places for tariffs.
+//! A tariff is open only while it stays within the Relevant Maximum Charge in every
+//! cell (offered region with offered payment method) and for every division of
+//! consumption between the months.
+
+mod book;
+mod calendar;
+pub mod desk;
+pub mod random;
+pub mod script;
+mod sheet;
+mod tariff;
+
+pub use book::{Book, Maximum, NotOpened, Quote, Refusal, State, PLACES};
+pub use calendar::period_days;
+pub use sheet::{field_range, Breach, SheetError, FIELDS, METHODS, REGIONS};
+pub use tariff::{Tariff, MONTH_LIMIT, RECORD};

@@ -1,0 +1,43 @@
+//! The reference sheet, written out from document 01.
+#![allow(dead_code)]
+
+use second::Book;
+
+pub const ALL: u32 = 16_383;
+
+pub fn reference() -> Vec<u32> {
+    let mut s = vec![
+        0, 30_000_000, 0, 36_000_000, // DF0
+        0, 1_000_000, 0, 1_000_000, // CM0
+        1_000_000, 8_000_000, 1_000_000, 8_000_000, // PC0
+        5_000_000, 9_000_000, 5_000_000, 9_000_000, // OC0
+        10_000, 10_000, // HAP
+        20_000, 0, // PAP
+        400_000, 0, // PAAC
+        1_000, 100, 100, 100, 100, 100, 100, // initial
+        1_100, 100, 105, 100, 100, 100, 100,     // current
+        500_000, // SMNCC
+    ];
+    for _region in 0..14 {
+        s.extend([2_000_000, 12_000_000, 2_000_000, 12_000_000]);
+    }
+    s.extend([3_000, 4_000]);
+    assert_eq!(s.len(), 95);
+    s
+}
+
+/// A book with the reference sheet for October 2023, t 3.
+pub fn reference_book() -> Book {
+    let mut book = Book::new();
+    book.set(2023, 10, 3, &reference()).unwrap();
+    book
+}
+
+/// A tariff in all regions and by both methods.
+pub fn tariff(kind: u32, standing: u32, rates: &[u32], steps: &[u32]) -> [u32; 13] {
+    let mut record = [0; 13];
+    record[..5].copy_from_slice(&[kind, rates.len() as u32, standing, ALL, 3]);
+    record[5..5 + rates.len()].copy_from_slice(rates);
+    record[9..9 + steps.len()].copy_from_slice(steps);
+    record
+}

@@ -1,0 +1,235 @@
+//! The desk's lines.
+
+mod common;
+
+use second::desk::Desk;
+use second::script::{script, speed_script};
+
+fn run(input: &[u8]) -> String {
+    let mut desk = Desk::new();
+    let mut out = Vec::new();
+    desk.feed(input, &mut out);
+    desk.finish(&mut out);
+    String::from_utf8(out).unwrap()
+}
+
+fn reference_line() -> String {
+    let mut line = "set 2023 10 3".to_string();
+    for field in common::reference() {
+        line.push_str(&format!(" {field}"));
+    }
+    line.push('\n');
+    line
+}
+
+#[test]
+fn answers() {
+    let mut input = reference_line();
+    input.push_str("benchmark 0 0 1 1\n");
+    input.push_str("maximum 0 0 1 300\n");
+    input.push_str("put 4 1 2 20000 16383 3 20000 15000 0 0 100 0 0 0\n");
+    input.push_str("open 4\n");
+    input.push_str("quote 4 0 1 300 0 0\n");
+    input.push_str("put 5 1 1 23000 16383 3 18000 0 0 0 0 0 0 0\n");
+    input.push_str("open 5\nopen 5\nclose 5\nclose 5\ndrop 5\ndrop 5\n");
+    input.push_str("put 5\nput 0\nset 0 0 0\nquote 4 0 1\nbenchmark 14 0 0 0\n");
+    assert_eq!(
+        run(input.as_bytes()),
+        "ok\n\
+         ok 64469500\n\
+         ok 279704700000 36000\n\
+         ok\n\
+         refused 11 0 1 253530000000 100 100 100\n\
+         ok 24624000000000 27970470000000\n\
+         ok\n\
+         ok 28\nrefused 7\nok\nrefused 12\nok\nrefused 9\n\
+         refused 8\nrefused 6\nrefused 1\nrefused 13\nrefused 13\n"
+    );
+}
+
+#[test]
+fn lines_that_are_no_calls() {
+    for (line, expected) in [
+        ("opens 1", "unknown call"),
+        ("OPEN 1", "unknown call"),
+        ("open\t1", "unknown call"),
+        ("\u{feff}open 1", "unknown call"),
+        ("7 x", "unknown call"),
+        ("open\r 1", "unknown call"),
+        ("open", "open takes 1 number"),
+        ("open 1 2", "open takes 1 number"),
+        ("close", "close takes 1 number"),
+        ("drop 1 2 3", "drop takes 1 number"),
+        ("set", "set takes at least 3 numbers"),
+        ("set 1 2", "set takes at least 3 numbers"),
+        ("put", "put takes at least 1 number"),
+        ("benchmark 0 0 0", "benchmark takes 4 numbers"),
+        ("benchmark 0 0 0 0 0", "benchmark takes 4 numbers"),
+        ("maximum", "maximum takes 4 numbers"),
+        ("quote 1 2", "quote takes at least 3 numbers"),
+        ("open x", "word 2 is not a number from 0 to 4294967295"),
+        ("open 1 2 -3", "word 4 is not a number from 0 to 4294967295"),
+        (
+            "open 4294967296",
+            "word 2 is not a number from 0 to 4294967295",
+        ),
+        ("open  1 #", "word 3 is not a number from 0 to 4294967295"),
+        ("open 1\r 2", "word 2 is not a number from 0 to 4294967295"),
+        ("open 1\r\r", "word 2 is not a number from 0 to 4294967295"),
+        ("set +1", "word 2 is not a number from 0 to 4294967295"),
+        ("put 1 1.5 x", "word 3 is not a number from 0 to 4294967295"),
+        (
+            "put 99999999999999999999999999999999",
+            "word 2 is not a number from 0 to 4294967295",
+        ),
+    ] {
+        for end in ["", "\n", "\r\n", "  \n"] {
+            // A carriage return in the line is at its end only if nothing follows.
+            let expected = format!("error line 1: {expected}\n");
+            assert_eq!(
+                run(format!("{line}{end}").as_bytes()),
+                expected,
+                "{line:?}{end:?}"
+            )
+        }
+    }
+}
+
+#[test]
+fn lines_passed_over() {
+    for line in [
+        "",
+        " ",
+        "     ",
+        "#",
+        "# open 1",
+        "   #open 1",
+        "\r",
+        "  \r",
+        "#\r",
+    ] {
+        assert_eq!(run(line.as_bytes()), "", "{line:?}");
+        let input = format!("{line}\nopen 33\n{line}\n\nopen\n");
+        let expected = "refused 6\nerror line 5: open takes 1 number\n";
+        assert_eq!(run(input.as_bytes()), expected, "{line:?}");
+    }
+}
+
+#[test]
+fn numbers_at_their_limits() {
+    assert_eq!(run(b"open 4294967295"), "refused 6\n");
+    assert_eq!(
+        run(b"open 0000000000000000000000000000000000001"),
+        "refused 9\n"
+    );
+    assert_eq!(run(b"open 0"), "refused 6\n");
+    assert_eq!(run(b"   open    32   \r\n"), "refused 9\n");
+    let zeros = format!("open {}", "0".repeat(16_000));
+    assert_eq!(run(zeros.as_bytes()), "refused 6\n");
+}
+
+#[test]
+fn the_longest_line() {
+    let line = |length: usize, start: &str, filling: &str, end: &str| {
+        let filling = filling.repeat(length - start.len() - end.len());
+        run(format!("{start}{filling}{end}\nopen\n").as_bytes())
+    };
+    let then = "error line 2: open takes 1 number\n";
+    let too_long = format!("error line 1: longer than 16384 bytes\n{then}");
+    for start in ["open 33 ", "", "#"] {
+        let short = if start.is_empty() || start == "#" {
+            then.to_string()
+        } else {
+            format!("refused 6\n{then}")
+        };
+        for end in ["", "\r"] {
+            assert_eq!(line(16_384, start, " ", end), short);
+            assert_eq!(line(16_385, start, " ", end), too_long);
+            assert_eq!(line(200_000, start, " ", end), too_long);
+        }
+    }
+    assert_eq!(
+        line(16_384, "x", "y", ""),
+        format!("error line 1: unknown call\n{then}")
+    );
+    assert_eq!(line(16_385, "x", "y", ""), too_long);
+    // As many numbers as a line can have.
+    let many = run(format!("set{}\n", " 0".repeat(8_190)).as_bytes());
+    assert_eq!(many, "refused 1\n");
+    // No line feed at the end.
+    assert_eq!(
+        run(&b"#".repeat(16_385)),
+        "error line 1: longer than 16384 bytes\n"
+    );
+    assert_eq!(run(&b"#".repeat(16_384)), "");
+}
+
+#[test]
+fn any_bytes() {
+    let all: Vec<u8> = (0..=255).collect();
+    // The line feed splits the bytes in two lines.
+    let expected = "error line 1: unknown call\nerror line 2: unknown call\n";
+    assert_eq!(run(&all), expected);
+    assert_eq!(
+        run(b"open \xff"),
+        "error line 1: word 2 is not a number from 0 to 4294967295\n"
+    );
+    assert_eq!(run(b"\0\n"), "error line 1: unknown call\n");
+}
+
+/// However the input is cut, the answers are the same, and each comes with its line's end.
+#[test]
+fn pieces_of_any_size() {
+    let mut text = b"# ".repeat(10_000);
+    text.push(b'\n');
+    text.extend(script(4, 3_000).text);
+    let whole = run(&text);
+    assert!(whole.starts_with("error line 1: longer than 16384 bytes\n"));
+    for size in [1, 2, 7, 97, 16_383, 16_384, 16_385, 65_536] {
+        let mut desk = Desk::new();
+        let mut out = Vec::new();
+        let (mut lines, mut answers) = (0, 0);
+        let feeds = |bytes: &[u8]| bytes.iter().filter(|&&byte| byte == b'\n').count();
+        for piece in text.chunks(size) {
+            let before = out.len();
+            desk.feed(piece, &mut out);
+            lines += feeds(piece);
+            answers += feeds(&out[before..]);
+            assert!(answers <= lines);
+        }
+        desk.finish(&mut out);
+        assert!(out == whole.as_bytes(), "pieces of {size}");
+    }
+    let mut desk = Desk::new();
+    let mut out = Vec::new();
+    desk.feed(b"open 3", &mut out);
+    assert!(out.is_empty());
+    desk.feed(b"3\nopen", &mut out);
+    assert_eq!(out, b"refused 6\n");
+    desk.feed(b" 1", &mut out);
+    desk.feed(b"\r", &mut out);
+    assert_eq!(out, b"refused 6\n");
+    desk.finish(&mut out);
+    assert_eq!(out, b"refused 6\nrefused 9\n");
+}
+
+#[test]
+fn scripts_are_the_same_from_the_same_seed() {
+    assert_eq!(script(9, 500).text, script(9, 500).text);
+    assert_ne!(script(9, 500).text, script(10, 500).text);
+    assert_eq!(script(9, 500).calls, 500);
+}
+
+#[test]
+fn speed_scripts_have_their_lines_and_no_errors() {
+    for lines in [0, 1, 5_000] {
+        let text = speed_script(1, lines);
+        assert_eq!(text.iter().filter(|&&byte| byte == b'\n').count(), lines);
+        let answers = run(&text);
+        assert_eq!(answers.lines().count(), lines);
+        assert!(!answers.contains("error"));
+    }
+    let text = String::from_utf8(speed_script(1, 5_000)).unwrap();
+    let sheets = text.lines().filter(|line| line.starts_with("set")).count();
+    assert!((20..=100).contains(&sheets), "{sheets} sheets");
+}

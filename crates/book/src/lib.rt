@@ -287,14 +287,14 @@ fn put_at(code: u32, p: Place, x: &[u32]) -> Settled
     ensures { λ r. ⌜ Settles (PUT code (now (x .entry))) code p r ⌝ }
 {
     let inside = code_check(code);
+    let shut = open_check(p);
+    let record = tariff::check(x);
     let Check::Pass = inside else {
         return refuses(p, inside);
     };
-    let shut = open_check(p);
     let Check::Pass = shut else {
         return refuses(p, shut);
     };
-    let record = tariff::check(x);
     let Check::Pass = record else {
         return refuses(p, record);
     };
@@ -324,14 +324,14 @@ fn close_at(code: u32, p: Place) -> Settled
     ensures { λ r. ⌜ Settles (CLOSE code) code p r ⌝ }
 {
     let inside = code_check(code);
+    let filled = empty_check(p);
+    let opened = closed_check(p);
     let Check::Pass = inside else {
         return refuses(p, inside);
     };
-    let filled = empty_check(p);
     let Check::Pass = filled else {
         return refuses(p, filled);
     };
-    let opened = closed_check(p);
     let Check::Pass = opened else {
         return refuses(p, opened);
     };
@@ -362,14 +362,14 @@ fn drop_at(code: u32, p: Place) -> Settled
 {
     let nothing = empty_place();
     let inside = code_check(code);
+    let taken = empty_check(p);
+    let closed = open_check(p);
     let Check::Pass = inside else {
         return refuses(p, inside);
     };
-    let filled = empty_check(p);
-    let Check::Pass = filled else {
-        return refuses(p, filled);
+    let Check::Pass = taken else {
+        return refuses(p, taken);
     };
-    let closed = open_check(p);
     let Check::Pass = closed else {
         return refuses(p, closed);
     };

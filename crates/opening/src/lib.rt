@@ -42,18 +42,18 @@ fn open_at(code: u32, p: Place, loaded: bool, figures: Benchmarks) -> Settled
     ensures { λ r. ⌜ Opens code p loaded figures r ⌝ }
 {
     let inside = book::code_check(code);
+    let filled = book::empty_check(p);
+    let shut = book::open_check(p);
+    let sheet = book::sheet_check(loaded);
     let Check::Pass = inside else {
         return book::refuses(p, inside);
     };
-    let filled = book::empty_check(p);
     let Check::Pass = filled else {
         return book::refuses(p, filled);
     };
-    let shut = book::open_check(p);
     let Check::Pass = shut else {
         return book::refuses(p, shut);
     };
-    let sheet = book::sheet_check(loaded);
     let Check::Pass = sheet else {
         return book::refuses(p, sheet);
     };

@@ -1,5 +1,5 @@
 -- `book::close_at` meets its contract: each check that refuses is the first that applies, and what is left is a draft.
-use mathlib.Core.Path.{_≡_, refl, sym, _∙_, ap}
+use mathlib.Core.Path.{_≡_, sym, _∙_}
 use Rattle.refusal.specs.declared.Check.the-variants.{Pass}
 use Rattle.book.specs.declared.State.the-variants.{Draft}
 use Rattle.book.specs.Checks.{codeCheck}
@@ -10,11 +10,17 @@ use Rattle.book.proofs.close_at.Statement.{statement}
 use Rattle.book.proofs.close_at.Tie as tie
 
 -- the code is one of the 32
-within : (c : tie.After-enum-told) → codeCheck (c .before .before .before .args .code) ≡ Pass
-within c = sym (c .before .before .code-check .ensures) ∙ c .enum-told .given .1
+within : (c : tie.After-enum-told) → codeCheck (c .before .before .before .before .before .args .code) ≡ Pass
+within c = sym (c .before .before .before .before .code-check .ensures) ∙ c .enum-told .given .1
 
 code-check-requires : tie.Need-code-check-requires
 code-check-requires c κs = search needs
+
+empty-check-requires : tie.Need-empty-check-requires
+empty-check-requires c κs = search needs
+
+closed-check-requires : tie.Need-closed-check-requires
+closed-check-requires c κs = search needs
 
 enum-told : tie.Need-enum-told
 enum-told c = search needs
@@ -28,11 +34,8 @@ refuses-requires c κs = search needs
 returns : tie.Need-returns
 returns c =
     let told = c .before .enum-told2 .given .1 in
-    let six = sym (c .before .before .before .code-check .ensures) ∙ told in
+    let six = sym (c .before .before .before .before .before .code-check .ensures) ∙ told in
     settles-refused _ _ _ _ _ _ told (c .refuses .ensures) (λ b at index there. close-outside b _ _ six)
-
-empty-check-requires : tie.Need-empty-check-requires
-empty-check-requires c κs = search needs
 
 enum-told-3 : tie.Need-enum-told-3
 enum-told-3 c = search needs
@@ -45,13 +48,11 @@ refuses-requires-2 c κs = search needs
 
 returns-2 : tie.Need-returns-2
 returns-2 c =
-    let w = within (c .before .before .before .before) in
+    let e = c .before .before .before in
+    let w = within e in
     let told = c .before .enum-told4 .given .1 in
-    let nine = sym (c .before .before .before .empty-check .ensures) ∙ told in
+    let nine = sym (e .before .before .before .empty-check .ensures) ∙ told in
     settles-refused _ _ _ _ _ _ told (c .refuses2 .ensures) (λ b at index there. close-empty b _ _ w (at-code b _ at _ index there w) _ nine)
-
-closed-check-requires : tie.Need-closed-check-requires
-closed-check-requires c κs = search needs
 
 enum-told-5 : tie.Need-enum-told-5
 enum-told-5 c = search needs
@@ -64,12 +65,13 @@ refuses-requires-3 c κs = search needs
 
 returns-3 : tie.Need-returns-3
 returns-3 c =
-    let q = c .before .before .before .before in
-    let w = within (q .before .before .before) in
-    let filled = sym (q .before .before .empty-check .ensures) ∙ q .enum-told3 .given .1 in
+    let q = c .before .before .before in
+    let e = q .before .before in
+    let w = within e in
+    let passed = sym (e .before .before .before .empty-check .ensures) ∙ q .enum-told3 .given .1 in
     let told = c .before .enum-told6 .given .1 in
-    let twelve = sym (c .before .before .before .closed-check .ensures) ∙ told in
-    settles-refused _ _ _ _ _ _ told (c .refuses3 .ensures) (λ b at index there. close-closed b _ _ w (at-code b _ at _ index there w) _ filled twelve)
+    let twelve = sym (e .before .before .closed-check .ensures) ∙ told in
+    settles-refused _ _ _ _ _ _ told (c .refuses3 .ensures) (λ b at index there. close-closed b _ _ w (at-code b _ at _ index there w) _ passed twelve)
 
 in-state-requires : tie.Need-in-state-requires
 in-state-requires c κs = search needs
@@ -80,8 +82,9 @@ accepts-requires c κs = search needs
 returns-4 : tie.Need-returns-4
 returns-4 c =
     let q = c .before .before in
-    let w = within (q .before .before .before .before .before .before) in
-    let opened = sym (q .before .before .closed-check .ensures) ∙ q .enum-told5 .given .1 in
+    let e = q .before .before .before .before in
+    let w = within e in
+    let opened = sym (e .before .before .closed-check .ensures) ∙ q .enum-told5 .given .1 in
     let g = c .accepts .ensures in
     settles-accepted _ _ _ _ _
     (g .0, g .1, g .2 ∙ c .before .in-state .ensures)
@@ -92,16 +95,16 @@ close-at-spec =
     tie.close
     (tie.spec
     code-check-requires
+    empty-check-requires
+    closed-check-requires
     enum-told
     enum-told-2
     refuses-requires
     returns
-    empty-check-requires
     enum-told-3
     enum-told-4
     refuses-requires-2
     returns-2
-    closed-check-requires
     enum-told-5
     enum-told-6
     refuses-requires-3

@@ -1,5 +1,5 @@
 -- `book::drop_at` meets its contract: each check that refuses is the first that applies, and what is left is empty.
-use mathlib.Core.Path.{_≡_, refl, sym, _∙_, ap}
+use mathlib.Core.Path.{_≡_, sym, _∙_}
 use Rattle.refusal.specs.declared.Check.the-variants.{Pass}
 use Rattle.book.specs.Checks.{codeCheck}
 use Rattle.book.specs.Book.{empty}
@@ -12,11 +12,17 @@ empty-place-requires : tie.Need-empty-place-requires
 empty-place-requires c κs = search needs
 
 -- the code is one of the 32
-within : (c : tie.After-enum-told) → codeCheck (c .before .before .before .before .args .code) ≡ Pass
-within c = sym (c .before .before .code-check .ensures) ∙ c .enum-told .given .1
+within : (c : tie.After-enum-told) → codeCheck (c .before .before .before .before .before .before .args .code) ≡ Pass
+within c = sym (c .before .before .before .before .code-check .ensures) ∙ c .enum-told .given .1
 
 code-check-requires : tie.Need-code-check-requires
 code-check-requires c κs = search needs
+
+empty-check-requires : tie.Need-empty-check-requires
+empty-check-requires c κs = search needs
+
+open-check-requires : tie.Need-open-check-requires
+open-check-requires c κs = search needs
 
 enum-told : tie.Need-enum-told
 enum-told c = search needs
@@ -30,11 +36,8 @@ refuses-requires c κs = search needs
 returns : tie.Need-returns
 returns c =
     let told = c .before .enum-told2 .given .1 in
-    let six = sym (c .before .before .before .code-check .ensures) ∙ told in
+    let six = sym (c .before .before .before .before .before .code-check .ensures) ∙ told in
     settles-refused _ _ _ _ _ _ told (c .refuses .ensures) (λ b at index there. drop-outside b _ _ six)
-
-empty-check-requires : tie.Need-empty-check-requires
-empty-check-requires c κs = search needs
 
 enum-told-3 : tie.Need-enum-told-3
 enum-told-3 c = search needs
@@ -47,13 +50,11 @@ refuses-requires-2 c κs = search needs
 
 returns-2 : tie.Need-returns-2
 returns-2 c =
-    let w = within (c .before .before .before .before) in
+    let e = c .before .before .before in
+    let w = within e in
     let told = c .before .enum-told4 .given .1 in
-    let nine = sym (c .before .before .before .empty-check .ensures) ∙ told in
+    let nine = sym (e .before .before .before .empty-check .ensures) ∙ told in
     settles-refused _ _ _ _ _ _ told (c .refuses2 .ensures) (λ b at index there. drop-empty b _ _ w (at-code b _ at _ index there w) _ nine)
-
-open-check-requires : tie.Need-open-check-requires
-open-check-requires c κs = search needs
 
 enum-told-5 : tie.Need-enum-told-5
 enum-told-5 c = search needs
@@ -66,10 +67,12 @@ refuses-requires-3 c κs = search needs
 
 returns-3 : tie.Need-returns-3
 returns-3 c =
-    let q = c .before .before .before .before in
-    let w = within (q .before .before .before) in
+    let q = c .before .before .before in
+    let e = q .before .before in
+    let w = within e in
+    let passed = sym (e .before .before .before .empty-check .ensures) ∙ q .enum-told3 .given .1 in
     let told = c .before .enum-told6 .given .1 in
-    let seven = sym (c .before .before .before .open-check .ensures) ∙ told in
+    let seven = sym (e .before .before .open-check .ensures) ∙ told in
     settles-refused _ _ _ _ _ _ told (c .refuses3 .ensures) (λ b at index there. drop-open b _ _ w (at-code b _ at _ index there w) _ seven)
 
 accepts-requires : tie.Need-accepts-requires
@@ -78,14 +81,14 @@ accepts-requires c κs = search needs
 returns-4 : tie.Need-returns-4
 returns-4 c =
     let q = c .before in
-    let r = q .before .before .before in
-    let w = within (r .before .before .before) in
-    let shut = sym (q .before .before .open-check .ensures) ∙ q .enum-told5 .given .1 in
-    let filled = sym (r .before .before .empty-check .ensures) ∙ r .enum-told3 .given .1 in
+    let r = q .before .before in
+    let e = r .before .before in
+    let w = within e in
+    let shut = sym (e .before .before .open-check .ensures) ∙ q .enum-told5 .given .1 in
+    let filled = sym (e .before .before .before .empty-check .ensures) ∙ r .enum-told3 .given .1 in
     let g = c .accepts .ensures in
-    let nothing = r .before .before .before .before .before .before .empty-place .ensures in
     settles-accepted _ _ _ _ _
-    (g .0, g .1, g .2 ∙ nothing)
+    (g .0, g .1, g .2 ∙ e .before .before .before .before .before .empty-place .ensures)
     (λ b at index there. (drops b _ _ w (at-code b _ at _ index there w) filled shut, placed b _ at _ index there w (λ p. empty)))
 
 pub drop-at-spec : {M : Type 1} → statement M
@@ -94,16 +97,16 @@ drop-at-spec =
     (tie.spec
     empty-place-requires
     code-check-requires
+    empty-check-requires
+    open-check-requires
     enum-told
     enum-told-2
     refuses-requires
     returns
-    empty-check-requires
     enum-told-3
     enum-told-4
     refuses-requires-2
     returns-2
-    open-check-requires
     enum-told-5
     enum-told-6
     refuses-requires-3

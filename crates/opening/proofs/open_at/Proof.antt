@@ -20,17 +20,17 @@ use Rattle.opening.proofs.open_at.Statement.{statement}
 use Rattle.opening.proofs.open_at.Tie as tie
 
 -- the code is one of the 32, the place is not empty and not open, and there is a sheet
-within : (c : tie.After-enum-told) → codeCheck (c .before .before .before .args .code) ≡ Pass
-within c = sym (c .before .before .code-check .ensures) ∙ c .enum-told .given .1
+within : (c : tie.After-enum-told) → codeCheck (c .before .before .before .before .before .before .args .code) ≡ Pass
+within c = sym (c .before .before .before .before .before .code-check .ensures) ∙ c .enum-told .given .1
 
-filled : (c : tie.After-enum-told3) → emptyCheck (c .before .before .before .before .before .before .args .p .state) ≡ Pass
-filled c = sym (c .before .before .empty-check .ensures) ∙ c .enum-told3 .given .1
+filled : (c : tie.After-enum-told3) → emptyCheck (c .before .before .before .before .before .before .before .before .args .p .state) ≡ Pass
+filled c = sym (c .before .before .before .before .before .before .empty-check .ensures) ∙ c .enum-told3 .given .1
 
-shut : (c : tie.After-enum-told5) → openCheck (c .before .before .before .before .before .before .before .before .before .args .p .state) ≡ Pass
-shut c = sym (c .before .before .open-check .ensures) ∙ c .enum-told5 .given .1
+shut : (c : tie.After-enum-told5) → openCheck (c .before .before .before .before .before .before .before .before .before .before .args .p .state) ≡ Pass
+shut c = sym (c .before .before .before .before .before .before .before .open-check .ensures) ∙ c .enum-told5 .given .1
 
 loaded : (c : tie.After-enum-told7) → c .before .before .before .before .before .before .before .before .before .before .before .before .args .loaded ≡ true
-loaded c = check-passed _ 10 (sym (c .before .before .sheet-check .ensures) ∙ c .enum-told7 .given .1)
+loaded c = check-passed _ 10 (sym (c .before .before .before .before .before .before .before .before .sheet-check .ensures) ∙ c .enum-told7 .given .1)
 
 code-check-requires : tie.Need-code-check-requires
 code-check-requires c κs = search needs
@@ -47,7 +47,7 @@ refuses-requires c κs = search needs
 returns : tie.Need-returns
 returns c =
     let told = c .before .enum-told2 .given .1 in
-    let six = sym (c .before .before .before .code-check .ensures) ∙ told in
+    let six = sym (c .before .before .before .before .before .before .code-check .ensures) ∙ told in
     opens-refused _ _ _ _ _ _ _ told (c .refuses .ensures) (λ b at l index there. open-outside b _ _ six)
 
 empty-check-requires : tie.Need-empty-check-requires
@@ -64,9 +64,10 @@ refuses-requires-2 c κs = search needs
 
 returns-2 : tie.Need-returns-2
 returns-2 c =
-    let w = within (c .before .before .before .before) in
+    let e = c .before .before .before in
+    let w = within e in
     let told = c .before .enum-told4 .given .1 in
-    let nine = sym (c .before .before .before .empty-check .ensures) ∙ told in
+    let nine = sym (e .before .before .before .before .empty-check .ensures) ∙ told in
     opens-refused _ _ _ _ _ _ _ told (c .refuses2 .ensures) (λ b at l index there. open-empty b _ _ w (at-code b _ at _ index there w) _ nine)
 
 open-check-requires : tie.Need-open-check-requires
@@ -83,9 +84,10 @@ refuses-requires-3 c κs = search needs
 
 returns-3 : tie.Need-returns-3
 returns-3 c =
-    let w = within (c .before .before .before .before .before .before .before) in
+    let e = c .before .before .before .before .before in
+    let w = within e in
     let told = c .before .enum-told6 .given .1 in
-    let seven = sym (c .before .before .before .open-check .ensures) ∙ told in
+    let seven = sym (e .before .before .before .open-check .ensures) ∙ told in
     opens-refused _ _ _ _ _ _ _ told (c .refuses3 .ensures) (λ b at l index there. open-open b _ _ w (at-code b _ at _ index there w) _ seven)
 
 sheet-check-requires : tie.Need-sheet-check-requires
@@ -102,11 +104,12 @@ refuses-requires-4 c κs = search needs
 
 returns-4 : tie.Need-returns-4
 returns-4 c =
-    let v = c .before .before .before .before in
-    let u = v .before .before .before in
-    let w = within (u .before .before .before) in
+    let v = c .before .before .before in
+    let u = v .before .before in
+    let e = u .before .before in
+    let w = within e in
     let told = c .before .enum-told8 .given .1 in
-    let ten = sym (c .before .before .before .sheet-check .ensures) ∙ told in
+    let ten = sym (e .before .before .sheet-check .ensures) ∙ told in
     opens-refused _ _ _ _ _ _ _ told (c .refuses4 .ensures)
     (λ b at l index there. no-sheet b _ _ (at-code b _ at _ index there w) (filled u) (shut v) w _ (ap (λ t. unless t 10 Pass) l ∙ ten))
 
@@ -116,9 +119,9 @@ tariff-in-requires c κs = search needs
 verdict-of-requires : tie.Need-verdict-of-requires
 verdict-of-requires c κs =
     let q = c .before in
-    let v = q .before .before .before in
-    let u = v .before .before .before in
-    let start = u .before .before .before .before .before .before in
+    let v = q .before .before in
+    let u = v .before .before in
+    let start = u .before .before .before .before .before .before .before .before in
     (start .pre .0 (loaded q), tariff-valid (start .args .p) (start .pre .1) (filled u) (shut v) _ (c .tariff-in .ensures))
 
 enum-known-outcome : tie.Need-enum-known-outcome
@@ -144,9 +147,9 @@ returns-5 c =
     let o = c .before .before in
     let f = o .before .before in
     let q = f .before .before in
-    let v = q .before .before .before in
-    let u = v .before .before .before in
-    let w = within (u .before .before .before) in
+    let v = q .before .before in
+    let u = v .before .before in
+    let w = within (u .before .before) in
     λ b at reachable l g index there.
     let is = at-code b _ at _ index there w in
     let answered = answers-outcome b _ _ is (filled u) (shut v) reachable (l ∙ loaded q) _ g w _ _ _ (f .before .tariff-in .ensures) (f .verdict-of .ensures) (o .outcome .given .1) in
@@ -157,9 +160,9 @@ returns-6 c =
     let o = c .before .before in
     let f = o .before .before in
     let q = f .before .before in
-    let v = q .before .before .before in
-    let u = v .before .before .before in
-    let w = within (u .before .before .before) in
+    let v = q .before .before in
+    let u = v .before .before in
+    let w = within (u .before .before) in
     λ b at reachable l g index there.
     let is = at-code b _ at _ index there w in
     let answered = answers-outcome b _ _ is (filled u) (shut v) reachable (l ∙ loaded q) _ g w _ _ _ (f .before .tariff-in .ensures) (f .verdict-of .ensures) (o .outcome2 .given .1) in
@@ -170,21 +173,21 @@ open-at-spec =
     tie.close
     (tie.spec
     code-check-requires
+    empty-check-requires
+    open-check-requires
+    sheet-check-requires
     enum-told
     enum-told-2
     refuses-requires
     returns
-    empty-check-requires
     enum-told-3
     enum-told-4
     refuses-requires-2
     returns-2
-    open-check-requires
     enum-told-5
     enum-told-6
     refuses-requires-3
     returns-3
-    sheet-check-requires
     enum-told-7
     enum-told-8
     refuses-requires-4

@@ -16,7 +16,7 @@ use second::script::{script, Script};
 use second::{field_range, State, FIELDS};
 
 const SEEDS: [u64; 10] = [1, 2, 3, 5, 8, 13, 21, 34, 55, 89];
-const CALLS: usize = 25_000;
+const CALLS: usize = 100_000;
 
 /// What the fixed seeds must reach, and how often at least.
 const BARS: &[(&str, u64)] = &[

@@ -1,0 +1,76 @@
+-- Laws of texts written one behind the other.
+-- Assumes nothing.
+use mathlib.Core.Path.{_≡_, refl, sym, _∙_, ap}
+use mathlib.Core.List.{List, [], _∷_, _++_, append-assoc, append-nil}
+use Prim.Native.Nat.{ℕ, zero, suc, _+_, _<_, _≤_}
+use native.Mathlib.Nat.{add-zero, add-suc, suc-add, add-assoc}
+use native.Mathlib.Numerals.{add-one}
+use native.Mathlib.Omega.{arith}
+use lib.ListN.{length, getD, set, take, length-append}
+use lib.Seq.{sets, length-sets, take-suc, length-take-le, ext-getD}
+use Rattle.laws.specs.Notions.{tabulate}
+use Rattle.laws.proofs.Lists.{length-tabulate, getD-tabulate}
+use Rattle.request.specs.Protocol.{bytesOf}
+use Rattle.answers.specs.Writing.{decimal, Written}
+use Rattle.answers.specs.Answers.{spaced}
+
+sets-append : (a b l : List ℕ) (i : ℕ) → sets l i (a ++ b) ≡ sets (sets l i a) (i + length a) b
+sets-append [] b l i = ap (λ k. sets l k b) (sym (add-zero i))
+sets-append (x ∷ a) b l i =
+    sets-append a b (set l i x) (suc i)
+    ∙ ap (λ k. sets (sets (set l i x) (suc i) a) k b) (suc-add i (length a) ∙ sym (add-suc i (length a)))
+
+-- writing keeps the length
+pub kept : {l l₁ a : List ℕ} {at m : ℕ} → Written l at a m l₁ → length l₁ ≡ length l
+kept {l} {l₁} {a} {at} p = ap length (p .holds) ∙ length-sets l at a
+
+-- a text behind a text
+pub behind : {l l₁ l₂ a b : List ℕ} {at m n : ℕ} → Written l at a m l₁ → Written l₁ m b n l₂ → Written l at (a ++ b) n l₂
+behind {l} {l₁} {l₂} {a} {b} {at} {m} {n} p q =
+    record {
+      ends = omega (arith, p .ends, q .ends, length-append a b);
+      within = omega (arith, q .within, kept p);
+      holds = q .holds ∙ ap (λ k. sets k m b) (p .holds) ∙ ap (λ k. sets (sets l at a) k b) (p .ends) ∙ sym (sets-append a b l at);
+    }
+
+-- a text of no bytes
+pub nothing : (l : List ℕ) (at : ℕ) → at ≤ length l → Written l at [] at l
+nothing l at h = record { ends = sym (add-zero at); within = h; holds = refl }
+
+-- a byte behind a text
+pub byte-behind : {l l₁ a : List ℕ} {at m : ℕ} (x : ℕ) → m < length l → Written l at a m l₁
+    → Written l at (a ++ (x ∷ [])) (m + 1) (set l₁ m x)
+byte-behind {l} {l₁} {a} {at} {m} x h p = behind p (record { ends = refl; within = omega (arith, kept p); holds = refl })
+
+-- a turn of a loop that copies
+pub copy-more : (l s : List ℕ) (at i : ℕ) → i < length s → set (sets l at (take i s)) (at + i) (getD s i 0) ≡ sets l at (take (i + 1) s)
+copy-more l s at i h =
+    ap (λ k. set (sets l at (take i s)) (at + k) (getD s i 0)) (sym (length-take-le i s (omega arith)))
+    ∙ sym (sets-append (take i s) (getD s i 0 ∷ []) l at)
+    ∙ ap (sets l at) (sym (take-suc s i 0 h) ∙ ap (λ k. take k s) (sym (add-one i)))
+
+-- numbers behind numbers
+spaced-append : (a b : List ℕ) → spaced (a ++ b) ≡ spaced a ++ spaced b
+unfolding spaced
+spaced-append [] b = refl
+spaced-append (n ∷ a) b = ap (λ t. bytesOf " " ++ decimal n ++ t) (spaced-append a b) ∙ sym (append-assoc (bytesOf " " ++ decimal n) (spaced a) (spaced b))
+
+-- a turn of a loop that writes numbers
+pub spaced-more : (ns : List ℕ) (i : ℕ) → i < length ns
+    → spaced (take (i + 1) ns) ≡ (spaced (take i ns) ++ bytesOf " ") ++ decimal (getD ns i 0)
+unfolding spaced
+spaced-more ns i h =
+    let n = getD ns i 0 in
+    ap (λ k. spaced (take k ns)) (add-one i)
+    ∙ ap spaced (take-suc ns i 0 h)
+    ∙ spaced-append (take i ns) (n ∷ [])
+    ∙ ap (λ t. spaced (take i ns) ++ t) (append-nil (bytesOf " " ++ decimal n))
+    ∙ sym (append-assoc (spaced (take i ns)) (bytesOf " ") (decimal n))
+
+-- a message in parts, written with its neighbours
+pub regrouped : (e l c w k t n : List ℕ) → (e ++ l ++ (c ++ w)) ++ k ++ (t ++ n) ≡ e ++ l ++ (c ++ (w ++ k ++ t) ++ n)
+regrouped e l c w k t n = simp append-assoc
+
+-- a list is the numbers that it has at each place
+pub listed : (n : ℕ) (xs : List ℕ) → length xs ≡ n → xs ≡ tabulate n (λ i. getD xs i 0)
+listed n xs h = ext-getD 0 xs (tabulate n (λ i. getD xs i 0)) (h ∙ sym (length-tabulate n (λ i. getD xs i 0))) λ i k. sym (getD-tabulate n (λ j. getD xs j 0) i (omega arith))

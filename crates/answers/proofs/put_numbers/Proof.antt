@@ -1,0 +1,100 @@
+-- `answers::put_numbers` meets its contract: at each turn the numbers up to `i` are written, in 21 bytes each at most.
+-- Assumes nothing.
+use mathlib.Core.Path.{_≡_, refl, sym, ap, _∙_}
+use Prim.Native.Nat.{_+_, _-_, _*_, _≤_}
+use native.Mathlib.Omega.{arith}
+use lib.ListN.{length, getD, take, length-set}
+use lib.Seq.{take-all}
+use borrow.Author.Needs.{needs}
+use Rattle.answers.specs.Writing.{Written}
+use Rattle.answers.specs.Answers.{spaced}
+use Rattle.answers.proofs.Writing.{behind, byte-behind, spaced-more, nothing}
+use Rattle.answers.proofs.put_numbers.Statement.{statement}
+use Rattle.answers.proofs.put_numbers.Tie as tie
+use Rattle.answers.proofs.put_numbers.Reads as reads
+use Rattle.answers.proofs.put_numbers.Lts as lts
+use Rattle.answers.proofs.put_number.Reads as put-number-reads
+
+abbrev Inv-loop : tie.InvT-loop
+Inv-loop out₀ at numbers next₀ i₀ out next i =
+    (i ≤ length numbers) × (length out ≡ length out₀) × (next ≤ at + 21 * i) × Written out₀ at (spaced (take i numbers)) next out
+
+abbrev μ-loop : tie.MeasureT-loop
+μ-loop out₀ at numbers next₀ i₀ out next i = length numbers - i
+
+-- src/lib.rt:60:5
+loop-holds : tie.Need-loop-holds Inv-loop μ-loop
+unfolding spaced
+loop-holds c = (omega arith, refl, omega arith, nothing _ _ (omega arith))
+
+-- src/lib.rt:61:9
+slice-write-out : tie.Need-slice-write-out Inv-loop μ-loop
+slice-write-out c = omega arith
+
+-- src/lib.rt:62:32
+add-put-number : tie.Need-add-put-number Inv-loop μ-loop
+add-put-number c = omega arith
+
+-- src/lib.rt:62:42
+mul-put-number : tie.Need-mul-put-number Inv-loop μ-loop
+mul-put-number c = search needs
+
+-- src/lib.rt:62:42
+shared-slice-read-put-number : tie.Need-shared-slice-read-put-number Inv-loop μ-loop
+shared-slice-read-put-number c = search needs
+
+-- src/lib.rt:62:9
+put-number-requires : tie.Need-put-number-requires Inv-loop μ-loop
+put-number-requires c κs = simp length-set (omega arith)
+
+-- src/lib.rt:63:9
+add-i : tie.Need-add-i Inv-loop μ-loop
+add-i c = omega arith
+
+-- src/lib.rt:60:5
+loop-less : tie.Need-loop-less Inv-loop μ-loop
+loop-less c = omega arith
+
+-- src/lib.rt:60:5
+loop-again : tie.Need-loop-again Inv-loop μ-loop
+loop-again c =
+    let w = c .before .before .put-number in
+    let p = c .before .before .before .before .before .before in
+    let st = p .before .before .before in
+    let s = st .args .numbers .now in (
+      omega arith,
+      w .kept .0 ∙ length-set (p .loop .out) (p .loop .next) 32 ∙ p .loop .inv .1,
+      omega (arith, w .ensures .1),
+      rw (spaced-more s (p .loop .i) (omega arith)) (behind (byte-behind 32 (omega arith) (p .loop .inv .3)) (w .ensures .0)),
+    )
+
+-- src/lib.rt:53:1
+same-length : tie.Need-same-length Inv-loop μ-loop
+same-length c = search needs
+
+-- src/lib.rt:53:1
+returns : tie.Need-returns Inv-loop μ-loop
+returns c =
+    let p = c .before in
+    let st = p .before .before .before in
+    let s = st .args .numbers .now in
+    let e = take-all (p .loop .i) s (omega arith) in
+    (rw e at (p .loop .inv .3), omega arith)
+
+pub put-numbers-spec : {M : Type 1} → statement M
+put-numbers-spec =
+    tie.close
+    (tie.spec
+    Inv-loop
+    μ-loop
+    loop-holds
+    slice-write-out
+    add-put-number
+    mul-put-number
+    shared-slice-read-put-number
+    put-number-requires
+    add-i
+    loop-less
+    loop-again
+    same-length
+    returns)

@@ -1,0 +1,225 @@
+// The desk's answers as text in a buffer that the caller lends.
+// Promise: each function writes, from place `at` on, exactly the text that specs/Answers.antt defines, leaves every other byte as it was,
+// and returns the place behind the text (`Written` of specs/Writing.antt). Each requires room for the longest text that it may write.
+ghost use mathlib.Core.Path.{_≡_};
+ghost use mathlib.Core.List.{[], _∷_, _++_};
+ghost use Prim.Native.Nat.{_+_, _*_, _≤_};
+ghost use lib.ListN.{length, take};
+ghost use Rattle.book.specs.Promises.{answerOf};
+ghost use Rattle.request.specs.Protocol.{bytesOf};
+ghost use Rattle.answers.specs.Writing.{decimal, Written};
+ghost use Rattle.answers.specs.Answers.{spaced, line, answerText, toldText, errorText, tooLong, problemText};
+use book::Reply;
+use queries::Told;
+use request::Request;
+use request::Word;
+
+// A text.
+pub fn put_text(out: &mut [u8], at: usize, text: &[u8]) -> usize
+    requires { ⌜ at + length (now text) ≤ length (now out) ⌝ }
+    ensures { λ r. ⌜ Written (now (out .entry)) at (now (text .entry)) r (now (out .exit)) ⌝ }
+{
+    let mut i: usize = 0;
+    while i < text.len() {
+        out[at + i] = text[i];
+        i += 1;
+    }
+    at + i
+}
+
+// The digits of a number: those of its tenth part, and the last one behind them.
+fn digits_at(out: &mut [u8], at: usize, n: u64) -> usize
+    requires { ⌜ at + length (decimal n) ≤ length (now out) ⌝ }
+    ensures { λ r. ⌜ Written (now (out .entry)) at (decimal n) r (now (out .exit)) ⌝ }
+{
+    if n < 10 {
+        out[at] = 48 + n as u8;
+        return at + 1;
+    }
+    let next = digits_at(out, at, n / 10);
+    out[next] = 48 + (n % 10) as u8;
+    next + 1
+}
+
+// A number of up to 20 digits.
+pub fn put_number(out: &mut [u8], at: usize, n: u64) -> usize
+    requires { ⌜ at + 20 ≤ length (now out) ⌝ }
+    ensures { λ r. ⌜ Written (now (out .entry)) at (decimal n) r (now (out .exit)) ⌝ }
+    ensures { λ r. ⌜ r ≤ at + 20 ⌝ }
+{
+    digits_at(out, at, n)
+}
+
+// Numbers, each behind a space.
+fn put_numbers(out: &mut [u8], at: usize, numbers: &[u64]) -> usize
+    requires { ⌜ at + 21 * length (now numbers) ≤ length (now out) ⌝ }
+    ensures { λ r. ⌜ Written (now (out .entry)) at (spaced (now (numbers .entry))) r (now (out .exit)) ⌝ }
+    ensures { λ r. ⌜ r ≤ at + 21 * length (now (numbers .entry)) ⌝ }
+{
+    let mut next = at;
+    let mut i: usize = 0;
+    while i < numbers.len() {
+        out[next] = b' ';
+        next = put_number(out, next + 1, numbers[i]);
+        i += 1;
+    }
+    next
+}
+
+// A whole line: a word, numbers and a line feed.
+fn put_line(out: &mut [u8], at: usize, word: &[u8], numbers: &[u64]) -> usize
+    requires { ⌜ at + length (now word) + 21 * length (now numbers) + 1 ≤ length (now out) ⌝ }
+    ensures { λ r. ⌜ Written (now (out .entry)) at (line (now (word .entry)) (now (numbers .entry))) r (now (out .exit)) ⌝ }
+{
+    let behind_word = put_text(out, at, word);
+    let behind_numbers = put_numbers(out, behind_word, numbers);
+    put_text(out, behind_numbers, b"\n")
+}
+
+// ok and one number
+fn put_ok(out: &mut [u8], at: usize, x: u64) -> usize
+    requires { ⌜ at + 50 ≤ length (now out) ⌝ }
+    ensures { λ r. ⌜ Written (now (out .entry)) at (line (bytesOf "ok") (x ∷ [])) r (now (out .exit)) ⌝ }
+{
+    put_line(out, at, b"ok", &[x])
+}
+
+// refused and its number
+fn put_refused(out: &mut [u8], at: usize, n: u32) -> usize
+    requires { ⌜ at + 50 ≤ length (now out) ⌝ }
+    ensures { λ r. ⌜ Written (now (out .entry)) at (line (bytesOf "refused") (n ∷ [])) r (now (out .exit)) ⌝ }
+{
+    put_line(out, at, b"refused", &[n as u64])
+}
+
+// The numbers of refusal 11: 11, region, method, excess and 12 months.
+fn over_numbers(region: u32, method: u32, excess: u64, months: [u32; 12]) -> [u64; 16]
+    ensures { λ r. ⌜ r ≡ 11 ∷ region ∷ method ∷ excess ∷ months ⌝ }
+{
+    [
+        11,
+        region as u64,
+        method as u64,
+        excess,
+        months[0] as u64,
+        months[1] as u64,
+        months[2] as u64,
+        months[3] as u64,
+        months[4] as u64,
+        months[5] as u64,
+        months[6] as u64,
+        months[7] as u64,
+        months[8] as u64,
+        months[9] as u64,
+        months[10] as u64,
+        months[11] as u64,
+    ]
+}
+
+// refused 11 REGION METHOD EXCESS M1 .. Mt
+fn put_over(
+    out: &mut [u8],
+    at: usize,
+    region: u32,
+    method: u32,
+    t: u32,
+    excess: u64,
+    months: [u32; 12],
+) -> usize
+    requires { ⌜ at + 344 ≤ length (now out) ⌝ }
+    ensures { λ r. ⌜ Written (now (out .entry)) at (line (bytesOf "refused") (11 ∷ region ∷ method ∷ excess ∷ take t months)) r (now (out .exit)) ⌝ }
+{
+    let numbers = over_numbers(region, method, excess, months);
+    if t < 12 {
+        let count = 4 + t as usize;
+        return put_line(out, at, b"refused", &numbers[..count]);
+    }
+    put_line(out, at, b"refused", &numbers)
+}
+
+// The answer of SET, PUT, OPEN, CLOSE or DROP, with the months that stand beside it.
+pub fn put_reply(out: &mut [u8], at: usize, reply: Reply, months: [u32; 12]) -> usize
+    requires { ⌜ at + 344 ≤ length (now out) ⌝ }
+    ensures { λ r. ⌜ Written (now (out .entry)) at (answerText (answerOf reply months)) r (now (out .exit)) ⌝ }
+{
+    match reply {
+        Reply::Accepted => put_text(out, at, b"ok\n"),
+        Reply::Opened(cells) => put_ok(out, at, cells as u64),
+        Reply::Refused(n) => put_refused(out, at, n),
+        Reply::Over(region, method, t, excess) => {
+            put_over(out, at, region, method, t, excess, months)
+        }
+    }
+}
+
+// The answer of BENCHMARK, MAXIMUM or QUOTE.
+pub fn put_told(out: &mut [u8], at: usize, told: Told) -> usize
+    requires { ⌜ at + 50 ≤ length (now out) ⌝ }
+    ensures { λ r. ⌜ Written (now (out .entry)) at (toldText told) r (now (out .exit)) ⌝ }
+{
+    match told {
+        Told::Refused(n) => put_refused(out, at, n),
+        Told::Figure(x) => put_ok(out, at, x),
+        Told::Figures(x, y) => put_line(out, at, b"ok", &[x, y]),
+    }
+}
+
+// error line L, and what follows it
+fn put_error(out: &mut [u8], at: usize, l: u64, rest: &[u8]) -> usize
+    requires { ⌜ at + 31 + length (now rest) ≤ length (now out) ⌝ }
+    ensures { λ r. ⌜ Written (now (out .entry)) at (bytesOf "error line " ++ decimal l ++ now (rest .entry)) r (now (out .exit)) ⌝ }
+    ensures { λ r. ⌜ r ≤ at + 31 + length (now (rest .entry)) ⌝ }
+{
+    let behind_error = put_text(out, at, b"error line ");
+    let behind_l = put_number(out, behind_error, l);
+    put_text(out, behind_l, rest)
+}
+
+// error line L: longer than 16384 bytes
+pub fn put_too_long(out: &mut [u8], at: usize, l: u64) -> usize
+    requires { ⌜ at + 97 ≤ length (now out) ⌝ }
+    ensures { λ r. ⌜ Written (now (out .entry)) at (tooLong l) r (now (out .exit)) ⌝ }
+{
+    put_error(out, at, l, b": longer than 16384 bytes\n")
+}
+
+// error line L: word K is not a number from 0 to 4294967295
+fn put_not_a_number(out: &mut [u8], at: usize, l: u64, k: usize) -> usize
+    requires { ⌜ at + 97 ≤ length (now out) ⌝ }
+    ensures { λ r. ⌜ Written (now (out .entry)) at (problemText l (Request.NotANumber k)) r (now (out .exit)) ⌝ }
+{
+    let behind_word = put_error(out, at, l, b": word ");
+    let behind_k = put_number(out, behind_word, k as u64);
+    put_text(out, behind_k, b" is not a number from 0 to 4294967295\n")
+}
+
+// error line L: a call with too few or too many numbers
+fn put_wrong_count(out: &mut [u8], at: usize, l: u64, word: Word) -> usize
+    requires { ⌜ at + 97 ≤ length (now out) ⌝ }
+    ensures { λ r. ⌜ Written (now (out .entry)) at (problemText l (Request.WrongCount word)) r (now (out .exit)) ⌝ }
+{
+    match word {
+        Word::Set => put_error(out, at, l, b": set takes at least 3 numbers\n"),
+        Word::Put => put_error(out, at, l, b": put takes at least 1 number\n"),
+        Word::Open => put_error(out, at, l, b": open takes 1 number\n"),
+        Word::Close => put_error(out, at, l, b": close takes 1 number\n"),
+        Word::Drop => put_error(out, at, l, b": drop takes 1 number\n"),
+        Word::Benchmark => put_error(out, at, l, b": benchmark takes 4 numbers\n"),
+        Word::Maximum => put_error(out, at, l, b": maximum takes 4 numbers\n"),
+        Word::Quote => put_error(out, at, l, b": quote takes at least 3 numbers\n"),
+    }
+}
+
+// The answer to a line that is no call: nothing to a line that is passed over, and else its error.
+pub fn put_problem(out: &mut [u8], at: usize, l: u64, request: Request) -> usize
+    requires { ⌜ at + 97 ≤ length (now out) ⌝ }
+    ensures { λ r. ⌜ Written (now (out .entry)) at (problemText l request) r (now (out .exit)) ⌝ }
+{
+    match request {
+        Request::Nothing => at,
+        Request::Call(_, _) => at,
+        Request::Unknown => put_error(out, at, l, b": unknown call\n"),
+        Request::NotANumber(k) => put_not_a_number(out, at, l, k),
+        Request::WrongCount(word) => put_wrong_count(out, at, l, word),
+    }
+}

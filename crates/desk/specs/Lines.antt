@@ -1,0 +1,95 @@
+-- What the desk does with one line, as the protocol says: the book after it, and its answer.
+-- Assumes nothing.
+use mathlib.Core.Path.{_≡_}
+use mathlib.Core.Bool.{Bool, cond, _||_}
+use mathlib.Core.List.{List}
+use Prim.Native.Nat.{ℕ, _≤_}
+use lib.Dec.{ltb}
+use lib.ListN.{length, getD, drop}
+use Rattle.calendar.specs.declared.Period.{Period}
+use Rattle.book.specs.declared.Book.{Book}
+use Rattle.book.specs.Calls as call
+use Rattle.book.specs.Book.{step}
+use Rattle.setting.specs.Setting.{sheetAt}
+use Rattle.queries.specs.declared.Told.{Told}
+use Rattle.queries.specs.Queries.{benchmarkOf, maximumOf, quoteOf}
+use Rattle.lines.specs.Words.{withoutReturn}
+use Rattle.request.specs.declared.Word.{Word}
+use Rattle.request.specs.declared.Word.the-variants as word
+use Rattle.request.specs.declared.Request.{Request}
+use Rattle.request.specs.declared.Request.the-variants.{Nothing, Call, Unknown, NotANumber, WrongCount}
+use Rattle.request.specs.Protocol.{requestOf, numbersOf}
+use Rattle.answers.specs.Answers.{answerText, toldText, tooLong, problemText}
+use Rattle.desk.specs.declared.Step.{Step}
+use Rattle.desk.specs.declared.Step.the-variants.{Set, Put, Open, Close, Drop}
+use Rattle.desk.specs.declared.Query.{Query}
+use Rattle.desk.specs.declared.Query.the-variants.{Benchmark, Maximum, Quote}
+use Rattle.desk.specs.declared.Kind.{Kind}
+use Rattle.desk.specs.declared.Kind.the-variants as kind
+
+-- five words ask for a step and three for what the book tells
+abbrev pub kindOf : Word → Kind
+kindOf word.Set = kind.Steps Set
+kindOf word.Put = kind.Steps Put
+kindOf word.Open = kind.Steps Open
+kindOf word.Close = kind.Steps Close
+kindOf word.Drop = kind.Steps Drop
+kindOf word.Benchmark = kind.Tells Benchmark
+kindOf word.Maximum = kind.Tells Maximum
+kindOf word.Quote = kind.Tells Quote
+
+-- set YEAR MONTH T F0 F1 ..
+abbrev pub periodOf : List ℕ → Period
+periodOf ns = record { year = getD ns 0 0; month = getD ns 1 0; months = getD ns 2 0 }
+
+-- the step that is asked for with these numbers
+abbrev pub stepOf : Step → List ℕ → call.Call
+stepOf Set ns = call.SET (sheetAt (drop 3 ns) (periodOf ns))
+stepOf Put ns = call.PUT (getD ns 0 0) (drop 1 ns)
+stepOf Open ns = call.OPEN (getD ns 0 0)
+stepOf Close ns = call.CLOSE (getD ns 0 0)
+stepOf Drop ns = call.DROP (getD ns 0 0)
+
+-- what the book tells to these numbers
+abbrev pub toldOf : Book → Query → List ℕ → Told
+toldOf b Benchmark ns = benchmarkOf b (getD ns 0 0) (getD ns 1 0) (getD ns 2 0) (getD ns 3 0)
+toldOf b Maximum ns = maximumOf b (getD ns 0 0) (getD ns 1 0) (getD ns 2 0) (getD ns 3 0)
+toldOf b Quote ns = quoteOf b (getD ns 0 0) (getD ns 1 0) (getD ns 2 0) (drop 3 ns)
+
+-- the book after a line, and the text of its answer
+pub record Line : Type 0 where
+  pub book : Book
+  pub text : List ℕ
+
+abbrev pub stepLine : Book → call.Call → Line
+stepLine b c = record { book = step b c .book; text = answerText (step b c .answer) }
+
+abbrev pub toldLine : Book → Told → Line
+toldLine b t = record { book = b; text = toldText t }
+
+abbrev pub callLine : Book → Kind → List ℕ → Line
+callLine b (kind.Steps s) ns = stepLine b (stepOf s ns)
+callLine b (kind.Tells q) ns = toldLine b (toldOf b q ns)
+
+-- a line that is no call: "the book is untouched"
+abbrev pub problemLine : Book → ℕ → Request → Line
+problemLine b l q = record { book = b; text = problemText l q }
+
+abbrev pub requestLine : Book → ℕ → Request → List ℕ → Line
+requestLine b l Nothing ns = problemLine b l Nothing
+requestLine b l (Call w n) ns = callLine b (kindOf w) ns
+requestLine b l Unknown ns = problemLine b l Unknown
+requestLine b l (NotANumber k) ns = problemLine b l (NotANumber k)
+requestLine b l (WrongCount w) ns = problemLine b l (WrongCount w)
+
+-- line l without its line feed; `cut`: its start was dropped, since it has more than 16,384 bytes
+abbrev pub longLine : Book → ℕ → Line
+longLine b l = record { book = b; text = tooLong l }
+
+abbrev pub pickLine : Bool → Line → Line → Line
+pickLine t a b = cond t a b
+
+unfoldable pub lineAt : Book → ℕ → (cut : Bool) → List ℕ → Line
+lineAt b l cut bytes =
+    pickLine (cut || ltb 16384 (length bytes)) (longLine b l)
+    (requestLine b l (requestOf (withoutReturn bytes)) (numbersOf (withoutReturn bytes)))

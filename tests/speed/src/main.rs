@@ -1,0 +1,321 @@
+//! The twin of the Rattle program `speed`: the same calls, from the same generator, on the second book.
+//!
+//!     speed MEASUREMENT CALLS
+//!
+//! makes that many calls of one kind and prints the checksum of their answers; with a measurement above 4, of all five in turn.
+//! It also sees to it that the calls are what the measurement's name says, outside of what is timed.
+
+use second::{Book, NotOpened, Refusal, State};
+
+const SHEET: [u32; 95] = sheet();
+
+/// The reference sheet, with network costs lower by 1,000,000 in the last region.
+const fn sheet() -> [u32; 95] {
+    let mut s = [0; 95];
+    let mut f = 0;
+    while f < 4 {
+        let level = f % 2;
+        s[f] = [0, 30_000_000, 0, 36_000_000][f];
+        s[4 + f] = [0, 1_000_000][level];
+        s[8 + f] = [1_000_000, 8_000_000][level];
+        s[12 + f] = [5_000_000, 9_000_000][level];
+        s[25 + f] = 100;
+        s[32 + f] = 100;
+        f += 1;
+    }
+    s[16] = 10_000;
+    s[17] = 10_000;
+    s[18] = 20_000;
+    s[20] = 400_000;
+    s[22] = 1_000;
+    s[23] = 100;
+    s[24] = 100;
+    s[29] = 1_100;
+    s[30] = 100;
+    s[31] = 105;
+    s[36] = 500_000;
+    let mut k = 0;
+    while k < 56 {
+        s[37 + k] = [2_000_000, 12_000_000][k % 2] - if k < 52 { 0 } else { 1_000_000 };
+        k += 1;
+    }
+    s[93] = 3_000;
+    s[94] = 4_000;
+    s
+}
+
+/// The generator: a state of 32 bits, of which the upper 16 are drawn from.
+struct Generator(u64);
+
+impl Generator {
+    fn next(&mut self) {
+        self.0 = (self.0 * 1_664_525 + 1_013_904_223) % (1 << 32);
+    }
+
+    fn below(&self, n: u64) -> u32 {
+        (self.0 / 65_536 % n) as u32
+    }
+}
+
+/// The checksum of the answers.
+struct Sum(u64);
+
+impl Sum {
+    fn fold(&mut self, x: u64) {
+        self.0 = self.0.rotate_left(7).wrapping_add(x);
+    }
+
+    fn fold_done(&mut self, answer: Result<(), Refusal>) {
+        match answer {
+            Ok(()) => self.fold(0),
+            Err(refusal) => self.fold(refusal.number().into()),
+        }
+    }
+
+    fn fold_opened(&mut self, answer: Result<u32, NotOpened>) {
+        match answer {
+            Ok(cells) => self.fold(100 + u64::from(cells)),
+            Err(NotOpened::Refused(refusal)) => self.fold(refusal.number().into()),
+            Err(NotOpened::OverCap(breach)) => {
+                self.fold(breach.region.into());
+                self.fold(breach.method.into());
+                self.fold(breach.months().len() as u64);
+                self.fold(breach.excess);
+                self.fold(breach.months()[0].into());
+                self.fold(breach.months()[11].into());
+            }
+        }
+    }
+
+    fn fold_benchmark(&mut self, answer: Result<u32, Refusal>) {
+        match answer {
+            Ok(charge) => self.fold(charge.into()),
+            Err(refusal) => self.fold(refusal.number().into()),
+        }
+    }
+}
+
+/// A tariff with four tiers, offered everywhere. With a standing charge of 10,000 it is within the cap in all 28 cells, and with
+/// 22,000 in all but the last.
+fn tiered(k: u32, standing: u32) -> [u32; 13] {
+    [
+        1,
+        4,
+        standing + k,
+        16_383,
+        3,
+        18_600 + k,
+        18_000 + k,
+        18_500 + k,
+        17_000 + k,
+        100 + k,
+        500 + k,
+        2_000 + k,
+        0,
+    ]
+}
+
+/// Tariffs of all three kinds, within the cap everywhere.
+fn mixed(k: u32) -> [u32; 13] {
+    match k % 4 {
+        0 => tiered(k, 10_000),
+        1 => [
+            1,
+            2,
+            10_000 + k,
+            16_383,
+            3,
+            18_600 + k,
+            18_000 + k,
+            0,
+            0,
+            100 + k,
+            0,
+            0,
+            0,
+        ],
+        2 => [
+            2,
+            2,
+            10_000 + k,
+            16_383,
+            3,
+            17_000 + k,
+            12_000 + k,
+            0,
+            0,
+            0,
+            0,
+            0,
+            0,
+        ],
+        _ => [
+            3,
+            3,
+            10_000 + k,
+            16_383,
+            3,
+            17_000 + k,
+            11_000 + k,
+            14_000 + k,
+            0,
+            50,
+            30,
+            20,
+            0,
+        ],
+    }
+}
+
+/// A book with the sheet, for twelve months.
+fn with_sheet() -> Book {
+    let mut book = Book::new();
+    let _ = book.set(2023, 10, 12, &SHEET);
+    book
+}
+
+/// A book with the sheet and 32 drafts of four tiers.
+fn with_drafts(standing: u32) -> Book {
+    let mut book = with_sheet();
+    for k in 0..32 {
+        let _ = book.put(k + 1, &tiered(k, standing));
+    }
+    book
+}
+
+/// A book with the sheet and 32 open tariffs of all kinds.
+fn with_open() -> Book {
+    let mut book = with_sheet();
+    for k in 0..32 {
+        let _ = book.put(k + 1, &mixed(k));
+        let _ = book.open(k + 1);
+    }
+    assert_eq!(open_in(&book), 32);
+    book
+}
+
+/// How many places are open.
+fn open_in(book: &Book) -> usize {
+    (1..=32)
+        .filter(|&code| book.state(code) == Some(State::Open))
+        .count()
+}
+
+fn sets(n: u64) -> u64 {
+    let mut book = with_open();
+    let mut sheet = SHEET;
+    let mut x = Generator(1);
+    let mut sum = Sum(0);
+    for _ in 0..n {
+        x.next();
+        let at = x.below(56) as usize;
+        x.next();
+        let more = x.below(65_536);
+        sheet[37 + at] = SHEET[37 + at] + more;
+        sheet[29] = 1_100 + more % 16;
+        sum.fold_done(book.set(2018 + more % 80, 1 + more % 12, 12, &sheet));
+    }
+    assert_eq!(open_in(&book), 32);
+    for k in 0..32 {
+        sum.fold_done(book.close(k + 1));
+        sum.fold_benchmark(book.benchmark(k % 14, k % 2, k / 2 % 2, k / 4 % 2));
+    }
+    sum.0
+}
+
+fn opens(n: u64) -> u64 {
+    let mut book = with_drafts(10_000);
+    for code in 1..=32 {
+        assert_eq!(book.open(code), Ok(28));
+        assert_eq!(book.close(code), Ok(()));
+    }
+    let mut x = Generator(1);
+    let mut sum = Sum(0);
+    for _ in 0..n {
+        x.next();
+        let code = 1 + x.below(32);
+        sum.fold_opened(book.open(code));
+        sum.fold_done(book.close(code));
+    }
+    sum.0
+}
+
+fn overs(n: u64) -> u64 {
+    let mut book = with_drafts(22_000);
+    for code in 1..=32 {
+        assert!(
+            matches!(book.open(code), Err(NotOpened::OverCap(breach)) if (breach.region, breach.method) == (13, 1))
+        );
+    }
+    let mut x = Generator(1);
+    let mut sum = Sum(0);
+    for _ in 0..n {
+        x.next();
+        sum.fold_opened(book.open(1 + x.below(32)));
+    }
+    sum.0
+}
+
+fn quotes(n: u64) -> u64 {
+    let book = with_open();
+    let mut months = [1_000; 12];
+    let mut x = Generator(1);
+    let mut sum = Sum(0);
+    for _ in 0..n {
+        x.next();
+        let at = x.below(12) as usize;
+        let code = 1 + x.below(32);
+        let region = x.below(14);
+        x.next();
+        months[at] = x.below(10_001);
+        match book.quote(code, region, x.below(2), &months) {
+            Ok(quote) => {
+                sum.fold(quote.charge);
+                sum.fold(quote.maximum);
+            }
+            Err(refusal) => sum.fold(refusal.number().into()),
+        }
+    }
+    sum.0
+}
+
+fn benchmarks(n: u64) -> u64 {
+    let book = with_open();
+    let mut x = Generator(1);
+    let mut sum = Sum(0);
+    for _ in 0..n {
+        x.next();
+        let v = x.below(112);
+        sum.fold_benchmark(book.benchmark(v / 8, v / 4 % 2, v / 2 % 2, v % 2));
+    }
+    sum.0
+}
+
+/// The checksum of one measurement.
+fn measured(measurement: u64, calls: u64) -> u64 {
+    match measurement {
+        0 => sets(calls),
+        1 => opens(calls),
+        2 => overs(calls),
+        3 => quotes(calls),
+        _ => benchmarks(calls),
+    }
+}
+
+fn main() {
+    let numbers: Vec<u64> = std::env::args()
+        .skip(1)
+        .filter_map(|word| word.parse().ok())
+        .collect();
+    let [measurement, calls] = numbers[..] else {
+        eprintln!("usage: speed MEASUREMENT CALLS");
+        std::process::exit(2);
+    };
+    if measurement < 5 {
+        println!("{}", measured(measurement, calls));
+        return;
+    }
+    for each in 0..5 {
+        println!("{}", measured(each, calls));
+    }
+}

@@ -1,4 +1,7 @@
-// The desk: reads calls from standard input, one a line, and writes one answer a line to standard output.
+// The desk program: reads calls from standard input, one a line, and writes one answer a line to standard output (docs/PROTOCOL.md).
+// Promise: `take_lines` takes the whole lines that stand in the buffer one after the other; what it writes are the answers that
+// specs/Lines.antt defines, each to the book that the line before it left (`Takes` of specs/Desk.antt), and the book stays reachable.
+// Which bytes the system reads and writes no contract can say: the loop around that is proved safe.
 ghost use mathlib.Core.Path.{_≡_};
 ghost use Prim.Native.Nat.{_+_, _-_, _≤_, _<_};
 ghost use lib.ListN.{length, take};

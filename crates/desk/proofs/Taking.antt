@@ -1,4 +1,4 @@
--- Laws of the parts of a list of bytes.
+-- Laws of lines taken from a list of bytes, and of what is kept of it.
 -- Assumes nothing.
 use mathlib.Core.Path.{_≡_, refl, sym, _∙_, ap, subst}
 use mathlib.Core.Bool.{Bool, true, false, cond, _||_}
@@ -7,25 +7,20 @@ use Prim.Native.Nat.{ℕ, zero, suc, _+_, _-_, _<_, _≤_}
 use native.Mathlib.Nat.{le-of-suc-le-suc}
 use native.Mathlib.Omega.{arith}
 use lib.Dec.{eqb, ltb}
-use lib.ListN.{length, getD, take, drop, length-drop}
-use lib.Seq.{take-all, length-take-le, ext-getD, getD-take, getD-drop, take-add, drop-drop, drop-cons}
-use borrow.Author.Tests.{eqb-true, eqb-false, ltb-false}
+use lib.ListN.{length, getD, take, drop, set}
+use lib.Seq.{length-take-le, ext-getD, getD-take, getD-drop, take-add, drop-drop, drop-cons, take-set-le}
+use borrow.Author.Tests.{eqb-true, eqb-false, ltb-false, lt-ltb}
 use Rattle.bytes.specs.Bytes.{indexOf, indexAfter}
 use Rattle.book.specs.declared.Book.{Book}
 use Rattle.book.specs.Book.{Reachable}
+use Rattle.book.proofs.Places.{never}
 use Rattle.answers.specs.Writing.{Written}
 use Rattle.answers.proofs.Writing.{behind, nothing}
+use Rattle.protocol.specs.Lines.{lineAt, between}
+use Rattle.protocol.proofs.Parts.{length-between}
+use Rattle.desk.specs.declared.Input.{Input}
 use Rattle.desk.specs.declared.Desk.{Desk}
-use Rattle.desk.specs.Lines.{lineAt}
-use Rattle.desk.specs.Desk.{NoFeed, Takes, none, more, between, Keeps, Steady}
-
--- all that stands behind the first k
-pub rest : (k : ℕ) (xs : List ℕ) → take (length xs - k) (drop k xs) ≡ drop k xs
-rest k xs = take-all (length xs - k) (drop k xs) (omega (arith, length-drop k xs))
-
--- how many bytes stand between two places
-pub length-between : (xs : List ℕ) (from to : ℕ) → to ≤ length xs → length (between xs from to) ≡ to - from
-length-between xs from to h = length-take-le (to - from) (drop from xs) (omega (arith, length-drop from xs))
+use Rattle.desk.specs.Desk.{NoFeed, Takes, none, more, Keeps, Reads, isLeft, Closes, Steady}
 
 -- a list that begins with the bytes between two places
 pub front-is : (xs ys : List ℕ) (from to : ℕ) → to ≤ length xs → length ys ≡ length xs
@@ -102,72 +97,105 @@ line-more xs start from to end h k l e =
     ∙ ap (λ ys. between xs start from ++ between xs from end ++ ys) (between-one xs end (omega arith) ∙ ap (λ b. b ∷ []) (feed-at xs from to end h l e))
 
 -- what the loop of `take_lines` has done so far
-pub record Sofar (d : Desk) (input before : List ℕ) (after : List ℕ) (book : Book) (from : ℕ) (cut : Bool) (l at end : ℕ) : Type 0 where
+pub record Sofar (b : Book) (lines : ℕ) (i : Input) (input before after : List ℕ) (book : Book) (from : ℕ) (cut : Bool) (l at end : ℕ) : Type 0 where
   pub text : List ℕ
-  pub takes : Takes (d .book) (d .lines) (d .cut) (between input (d .from) from) book l cut text
+  pub takes : Takes b lines (i .cut) (between input (i .from) from) book l cut text
   pub written : Written before 0 text at after
   pub reachable : Reachable book
-  pub passed : d .from ≤ from
+  pub passed : i .from ≤ from
   pub order : from ≤ end
-  pub inside : end ≤ d .to
-  pub found : end ≡ from + indexOf 10 (between input from (d .to))
+  pub inside : end ≤ i .to
+  pub found : end ≡ from + indexOf 10 (between input from (i .to))
 
-module _ (d : Desk) (input before : List ℕ) (fits : d .to ≤ length input) where
+module _ (b : Book) (lines : ℕ) (i : Input) (input before : List ℕ) (fits : i .to ≤ length input) where
   -- nothing yet
-  pub sofar-none : (end : ℕ) → Reachable (d .book) → d .from ≤ end → end ≤ d .to → end ≡ d .from + indexOf 10 (between input (d .from) (d .to))
-      → Sofar d input before before (d .book) (d .from) (d .cut) (d .lines) 0 end
-  sofar-none end r o i f =
+  pub sofar-none : (end : ℕ) → Reachable b → i .from ≤ end → end ≤ i .to → end ≡ i .from + indexOf 10 (between input (i .from) (i .to))
+      → Sofar b lines i input before before b (i .from) (i .cut) lines 0 end
+  sofar-none end r o k f =
       record {
         text = [];
-        takes = subst (λ bytes. Takes (d .book) (d .lines) (d .cut) bytes (d .book) (d .lines) (d .cut) []) (sym (between-none input (d .from))) none;
+        takes = subst (λ bytes. Takes b lines (i .cut) bytes b lines (i .cut) []) (sym (between-none input (i .from))) none;
         written = nothing before 0 (omega arith);
         reachable = r;
         passed = omega arith;
         order = o;
-        inside = i;
+        inside = k;
         found = f;
       }
 
   -- one line more
   pub sofar-more : (after after′ : List ℕ) (book book′ : Book) (from : ℕ) (cut : Bool) (l at at′ end end′ : ℕ)
-      → Sofar d input before after book from cut l at end → end < d .to
+      → Sofar b lines i input before after book from cut l at end → end < i .to
       → book′ ≡ lineAt book (l + 1) cut (between input from end) .book → Reachable book′
       → Written after at (lineAt book (l + 1) cut (between input from end) .text) at′ after′
-      → end + 1 ≤ end′ → end′ ≤ d .to → end′ ≡ end + 1 + indexOf 10 (between input (end + 1) (d .to))
-      → Sofar d input before after′ book′ (end + 1) false (l + 1) at′ end′
-  sofar-more after after′ book book′ from cut l at at′ end end′ s k b r w o i f =
+      → end + 1 ≤ end′ → end′ ≤ i .to → end′ ≡ end + 1 + indexOf 10 (between input (end + 1) (i .to))
+      → Sofar b lines i input before after′ book′ (end + 1) false (l + 1) at′ end′
+  sofar-more after after′ book book′ from cut l at at′ end end′ s k e r w o m f =
       let line = between input from end in
       record {
         text = s .text ++ lineAt book (l + 1) cut line .text;
-        takes = rw (line-more input (d .from) from (d .to) end fits (s .passed) k (s .found), b)
-            (more line (s .takes) (no-feed input from (d .to) end fits (s .inside) (s .found)));
+        takes = rw (line-more input (i .from) from (i .to) end fits (s .passed) k (s .found), e)
+            (more line (s .takes) (no-feed input from (i .to) end fits (s .inside) (s .found)));
         written = behind (s .written) w;
         reachable = r;
         passed = omega (arith, s .passed, s .order);
         order = o;
-        inside = i;
+        inside = m;
         found = f;
       }
 
 -- what is kept of an unfinished line is no longer than a line may be
 no-or : (x y : Bool) → false ≡ (x || y) → y ≡ false
-no-or true y e = absurd (let z : _≡_ {A = ℕ} 0 1 = cc in omega arith)
+no-or true y e = never (cc)
 no-or false y e = sym e
 
-pub kept-short : (d : Desk) (before : List ℕ) (r : Desk) (after : List ℕ) → Keeps d before r after → r .to ≤ 16384
-kept-short d before r after k = go (k .cut) (k .long) (ap (λ x. x .to) (k .desk))
+pub kept-short : (i : Input) (before : List ℕ) (r : Input) (after : List ℕ) → Keeps i before r after → r .to ≤ 16384
+kept-short i before r after k = go (r .cut) (k .long) (ap (λ x. x .to) (k .input))
   where
-    go : (t : Bool) → t ≡ (d .cut || ltb 16384 (d .to - d .from)) → r .to ≡ cond t 0 (d .to - d .from) → r .to ≤ 16384
+    go : (t : Bool) → t ≡ (i .cut || ltb 16384 (i .to - i .from)) → r .to ≡ cond t 0 (i .to - i .from) → r .to ≤ 16384
     go true e f = omega arith
-    go false e f = omega (arith, ltb-false 16384 (d .to - d .from) (no-or (d .cut) (ltb 16384 (d .to - d .from)) e))
+    go false e f = omega (arith, ltb-false 16384 (i .to - i .from) (no-or (i .cut) (ltb 16384 (i .to - i .from)) e))
+
+-- whether anything is left
+pub left-none : (i : Input) → i .cut ≡ false → i .to ≡ 0 → isLeft i ≡ false
+left-none i e f = rw (e, f) refl
+
+pub left-cut : (i : Input) → i .cut ≡ true → isLeft i ≡ true
+left-cut i e = rw e refl
+
+pub left-some : (i : Input) → (i .to ≡ 0 → ⊥) → isLeft i ≡ true
+left-some i h = go (i .cut)
+  where
+    some : ltb 0 (i .to) ≡ true
+    some = lt-ltb 0 (i .to) (omega arith)
+
+    go : (t : Bool) → (t || ltb 0 (i .to)) ≡ true
+    go true = refl
+    go false = some
+
+-- a line feed behind what is left leaves it as it was
+pub closes-reads : (i : Input) (before : List ℕ) (r : Input) (after : List ℕ) → Closes i before r after → i .to < length before → Reads i before r after
+closes-reads i before r after k h =
+    record {
+      cut = ap (λ x. x .cut) (k .input);
+      from = ap (λ x. x .from) (k .input);
+      grown = omega (arith, ap (λ x. x .to) (k .input), go (isLeft i) .0);
+      inside = omega (arith, ap (λ x. x .to) (k .input), go (isLeft i) .1);
+      bytes = ap (take (i .to)) (k .bytes) ∙ go (isLeft i) .2;
+    }
+  where
+    go : (t : Bool)
+        → (i .to ≤ cond t (i .to + 1) (i .to)) × (cond t (i .to + 1) (i .to) ≤ length before)
+        × (take (i .to) (cond t (set before (i .to) 10) before) ≡ take (i .to) before)
+    go true = (omega arith, omega arith, take-set-le (i .to) before (i .to) 10 (omega arith))
+    go false = (omega arith, omega arith, refl)
 
 -- a steady desk, by other names of the lengths
 pub steady-as : {d : Desk} {i j n m o p : ℕ} → i ≡ j → n ≡ m → o ≡ p → Steady d i n o → Steady d j m p
 steady-as a b c s =
     record {
       reachable = s .reachable;
-      ordered = s .ordered;
-      inside = omega (arith, s .inside);
+      holds = record { ordered = s .holds .ordered; inside = omega (arith, s .holds .inside) };
       waiting = omega (arith, s .waiting);
       input-size = sym a ∙ s .input-size;
       numbers-size = sym b ∙ s .numbers-size;

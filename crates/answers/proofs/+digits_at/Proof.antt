@@ -1,16 +1,16 @@
 -- The proof of the cycle of calls {digits_at}. The measure is the number. A number below 10 is its one digit; any other is the
 -- digits of its tenth part, which the call of itself writes, and its last digit behind them.
 -- Assumes nothing.
-use mathlib.Core.Path.{_≡_, sym, ap, _∙_}
+use mathlib.Core.Path.{sym, ap}
+use Prim.Native.Nat.{ℕ, _<_}
 use native.Mathlib.Omega.{arith}
 use lib.ListN.{length}
-use borrow.Author.Needs.{needs}
 use lib.Seq.{sets}
-use Rattle.answers.proofs.Decimal.{decimal-small, decimal-more, length-more}
-use Rattle.answers.proofs.Writing.{byte-behind}
-use Prim.Native.Nat.{ℕ, _<_}
+use borrow.Author.Needs.{needs}
 use borrow.Fn.Kinds.{In}
 use borrow.Fn.PlainCycle.{Measures, is, falls, and}
+use Rattle.answers.proofs.Decimal.{decimal-small, decimal-more, length-more}
+use Rattle.answers.proofs.Writing.{byte-behind}
 use Rattle.answers.proofs.digits_at.Reads as digits-at
 use Rattle.answers.proofs.digits_at.Kinds as digits-at-kinds
 use Rattle.answers.proofs.+digits_at.Lts-digits_at as digits-at-lts
@@ -38,7 +38,6 @@ last-room t c =
     let st = c .before .before .before .before .before .before in
     omega (arith, length-more (st .args .n) (omega arith), c .before .before .digits-at .kept .0, c .before .before .digits-at .ensures .ends)
 
--- src/lib.rt:26:24
 digits-at-cast-out :
     (t : ℕ) →
     digits-at-lts.Need-cast-out
@@ -47,20 +46,17 @@ digits-at-cast-out :
     digits-at.Post
 digits-at-cast-out t c = omega arith
 
--- src/lib.rt:26:19
 digits-at-add-out :
     (t : ℕ) →
     digits-at-lts.Need-add-out (digits-at-below t, digits-at.Post) (digits-at-at t) digits-at.Post
 digits-at-add-out t c = omega arith
 
--- src/lib.rt:26:9
 digits-at-slice-write-out : (t : ℕ) → digits-at-lts.Need-slice-write-out (
   digits-at-below t,
   digits-at.Post,
 ) (digits-at-at t) digits-at.Post
 digits-at-slice-write-out t c = small-room t (c .before .before) (c .if1 .taken)
 
--- src/lib.rt:27:16
 digits-at-add-result :
     (t : ℕ) →
     digits-at-lts.Need-add-result
@@ -69,14 +65,12 @@ digits-at-add-result :
     digits-at.Post
 digits-at-add-result t c = omega (arith, small-room t (c .before .before) (c .if1 .taken))
 
--- src/lib.rt:27:9
 digits-at-same-length : (t : ℕ) → digits-at-lts.Need-same-length (
   digits-at-below t,
   digits-at.Post,
 ) (digits-at-at t) digits-at.Post
 digits-at-same-length t c = search needs
 
--- src/lib.rt:27:9
 digits-at-returns :
     (t : ℕ) →
     digits-at-lts.Need-returns (digits-at-below t, digits-at.Post) (digits-at-at t) digits-at.Post
@@ -84,14 +78,12 @@ digits-at-returns t c =
     let e = decimal-small (c .before .before .args .n) (c .if1 .taken) in
     record { ends = omega (arith, ap length e); within = omega (arith, ap length e); holds = ap (sets _ _) (sym e) }
 
--- src/lib.rt:29:9
 digits-at-digits-at-requires : (t : ℕ) → digits-at-lts.Need-digits-at-requires (
   digits-at-below t,
   digits-at.Post,
 ) (digits-at-at t) digits-at.Post
 digits-at-digits-at-requires t c κs = let st = c .before .before .before in (omega (arith, st .pre .0), omega (arith, length-more (st .args .n) (omega arith)))
 
--- src/lib.rt:30:22
 digits-at-cast-out-2 :
     (t : ℕ) →
     digits-at-lts.Need-cast-out-2
@@ -100,7 +92,6 @@ digits-at-cast-out-2 :
     digits-at.Post
 digits-at-cast-out-2 t c = omega arith
 
--- src/lib.rt:30:17
 digits-at-add-out-2 :
     (t : ℕ) →
     digits-at-lts.Need-add-out-2
@@ -109,28 +100,24 @@ digits-at-add-out-2 :
     digits-at.Post
 digits-at-add-out-2 t c = omega arith
 
--- src/lib.rt:30:5
 digits-at-slice-write-out-2 : (t : ℕ) → digits-at-lts.Need-slice-write-out-2 (
   digits-at-below t,
   digits-at.Post,
 ) (digits-at-at t) digits-at.Post
 digits-at-slice-write-out-2 t c = last-room t c
 
--- src/lib.rt:31:5
 digits-at-add-result-2 : (t : ℕ) → digits-at-lts.Need-add-result-2 (
   digits-at-below t,
   digits-at.Post,
 ) (digits-at-at t) digits-at.Post
 digits-at-add-result-2 t c = omega (arith, last-room t c)
 
--- src/lib.rt:21:1
 digits-at-same-length-2 : (t : ℕ) → digits-at-lts.Need-same-length-2 (
   digits-at-below t,
   digits-at.Post,
 ) (digits-at-at t) digits-at.Post
 digits-at-same-length-2 t c = search needs
 
--- src/lib.rt:21:1
 digits-at-returns-2 :
     (t : ℕ) →
     digits-at-lts.Need-returns-2

@@ -5,111 +5,84 @@ use mathlib.Core.List.{_∷_}
 use mir.Syntax.{w32}
 use lib.Dec.{lit<}
 use borrow.Kind.Array.{eInt, good-length}
+use borrow.Author.Needs.{needs}
 use Rattle.laws.specs.Notions.{tabulate, tabulateFrom}
 use Rattle.answers.proofs.Writing.{listed}
-use borrow.Author.Needs.{needs}
 use Rattle.answers.proofs.over_numbers.Statement.{statement}
 use Rattle.answers.proofs.over_numbers.Tie as tie
-use Rattle.answers.proofs.over_numbers.Reads as reads
-use Rattle.answers.proofs.over_numbers.Lts as lts
 
--- src/lib.rt:103:9
 array-read-t10 : tie.Need-array-read-t10
 array-read-t10 c = lit< tt
 
--- src/lib.rt:103:9
 cast-t11 : tie.Need-cast-t11
 cast-t11 c = search needs
 
--- src/lib.rt:104:9
 array-read-t14 : tie.Need-array-read-t14
 array-read-t14 c = lit< tt
 
--- src/lib.rt:104:9
 cast-t15 : tie.Need-cast-t15
 cast-t15 c = search needs
 
--- src/lib.rt:105:9
 array-read-t18 : tie.Need-array-read-t18
 array-read-t18 c = lit< tt
 
--- src/lib.rt:105:9
 cast-t19 : tie.Need-cast-t19
 cast-t19 c = search needs
 
--- src/lib.rt:106:9
 array-read-t22 : tie.Need-array-read-t22
 array-read-t22 c = lit< tt
 
--- src/lib.rt:106:9
 cast-t23 : tie.Need-cast-t23
 cast-t23 c = search needs
 
--- src/lib.rt:107:9
 array-read-t26 : tie.Need-array-read-t26
 array-read-t26 c = lit< tt
 
--- src/lib.rt:107:9
 cast-t27 : tie.Need-cast-t27
 cast-t27 c = search needs
 
--- src/lib.rt:108:9
 array-read-t30 : tie.Need-array-read-t30
 array-read-t30 c = lit< tt
 
--- src/lib.rt:108:9
 cast-t31 : tie.Need-cast-t31
 cast-t31 c = search needs
 
--- src/lib.rt:109:9
 array-read-t34 : tie.Need-array-read-t34
 array-read-t34 c = lit< tt
 
--- src/lib.rt:109:9
 cast-t35 : tie.Need-cast-t35
 cast-t35 c = search needs
 
--- src/lib.rt:110:9
 array-read-t38 : tie.Need-array-read-t38
 array-read-t38 c = lit< tt
 
--- src/lib.rt:110:9
 cast-t39 : tie.Need-cast-t39
 cast-t39 c = search needs
 
--- src/lib.rt:111:9
 array-read-t42 : tie.Need-array-read-t42
 array-read-t42 c = lit< tt
 
--- src/lib.rt:111:9
 cast-t43 : tie.Need-cast-t43
 cast-t43 c = search needs
 
--- src/lib.rt:112:9
 array-read-t46 : tie.Need-array-read-t46
 array-read-t46 c = lit< tt
 
--- src/lib.rt:112:9
 cast-t47 : tie.Need-cast-t47
 cast-t47 c = search needs
 
--- src/lib.rt:113:9
 array-read-t50 : tie.Need-array-read-t50
 array-read-t50 c = lit< tt
 
--- src/lib.rt:113:9
 cast-t51 : tie.Need-cast-t51
 cast-t51 c = search needs
 
--- src/lib.rt:114:9
 array-read-t54 : tie.Need-array-read-t54
 array-read-t54 c = lit< tt
 
--- src/lib.rt:114:9
 cast-t55 : tie.Need-cast-t55
 cast-t55 c = search needs
 
--- src/lib.rt:95:1
 returns : tie.Need-returns
 unfolding tabulate tabulateFrom
 returns c =

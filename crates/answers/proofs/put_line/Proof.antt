@@ -1,36 +1,27 @@
+-- `answers::put_line` meets its contract: a word, the numbers and a line feed, one behind the other.
+-- Assumes nothing.
 use mathlib.Core.Path.{refl, _∙_}
 use native.Mathlib.Omega.{arith}
 use Rattle.answers.specs.Answers.{line}
 use Rattle.answers.proofs.Writing.{behind}
-use borrow.Author.Needs.{needs}
 use Rattle.answers.proofs.put_line.Statement.{statement}
 use Rattle.answers.proofs.put_line.Tie as tie
-use Rattle.answers.proofs.put_line.Reads as reads
-use Rattle.answers.proofs.put_line.Lts as lts
-use Rattle.answers.proofs.put_numbers.Reads as put-numbers-reads
-use Rattle.answers.proofs.put_text.Reads as put-text-reads
 
--- src/lib.rt:73:9
 put-text-requires : tie.Need-put-text-requires
 put-text-requires c κs = omega arith
 
--- src/lib.rt:74:9
 put-numbers-requires : tie.Need-put-numbers-requires
 put-numbers-requires c κs = omega arith
 
--- src/lib.rt:75:35
 slice-aggregate-put-text : tie.Need-slice-aggregate-put-text
 slice-aggregate-put-text c = refl
 
--- src/lib.rt:75:5
 put-text-requires-2 : tie.Need-put-text-requires-2
 put-text-requires-2 c κs = omega arith
 
--- src/lib.rt:69:1
 same-length : tie.Need-same-length
 same-length c = c .before .before .put-text2 .kept .0 ∙ c .before .before .before .before .before .before .before .put-numbers .kept .0 ∙ c .before .before .before .before .before .before .before .before .before .before .before .put-text .kept .0
 
--- src/lib.rt:69:1
 returns : tie.Need-returns
 unfolding line
 returns c = behind (behind (c .before .before .before .before .before .before .before .before .before .before .before .put-text .ensures) (c .before .before .before .before .before .before .before .put-numbers .ensures .0)) (c .before .before .put-text2 .ensures)

@@ -6,40 +6,27 @@ use Rattle.request.specs.Protocol.{bytesOf}
 use Rattle.answers.specs.Writing.{decimal}
 use Rattle.answers.specs.Answers.{errorText}
 use Rattle.answers.proofs.Writing.{behind, regrouped}
-use borrow.Author.Needs.{needs}
 use Rattle.answers.proofs.put_not_a_number.Statement.{statement}
 use Rattle.answers.proofs.put_not_a_number.Tie as tie
-use Rattle.answers.proofs.put_not_a_number.Reads as reads
-use Rattle.answers.proofs.put_not_a_number.Lts as lts
-use Rattle.answers.proofs.put_error.Reads as put-error-reads
-use Rattle.answers.proofs.put_number.Reads as put-number-reads
-use Rattle.answers.proofs.put_text.Reads as put-text-reads
 
--- src/lib.rt:172:45
 slice-aggregate-put-error : tie.Need-slice-aggregate-put-error
 slice-aggregate-put-error c = refl
 
--- src/lib.rt:172:9
 put-error-requires : tie.Need-put-error-requires
 put-error-requires c κs = omega arith
 
--- src/lib.rt:173:9
 put-number-requires : tie.Need-put-number-requires
 put-number-requires c κs = omega arith
 
--- src/lib.rt:177:9
 slice-aggregate-put-text : tie.Need-slice-aggregate-put-text
 slice-aggregate-put-text c = refl
 
--- src/lib.rt:174:5
 put-text-requires : tie.Need-put-text-requires
 put-text-requires c κs = omega arith
 
--- src/lib.rt:168:1
 same-length : tie.Need-same-length
 same-length c = c .before .before .put-text .kept .0 ∙ c .before .before .before .before .before .before .before .put-number .kept .0 ∙ c .before .before .before .before .before .before .before .before .before .before .before .put-error .kept .0
 
--- src/lib.rt:168:1
 returns : tie.Need-returns
 unfolding errorText
 returns c =

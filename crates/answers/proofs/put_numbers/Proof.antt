@@ -1,9 +1,9 @@
 -- `answers::put_numbers` meets its contract: at each turn the numbers up to `i` are written, in 21 bytes each at most.
 -- Assumes nothing.
-use mathlib.Core.Path.{_≡_, refl, sym, ap, _∙_}
+use mathlib.Core.Path.{_≡_, refl, _∙_}
 use Prim.Native.Nat.{_+_, _-_, _*_, _≤_}
 use native.Mathlib.Omega.{arith}
-use lib.ListN.{length, getD, take, length-set}
+use lib.ListN.{length, take, length-set}
 use lib.Seq.{take-all}
 use borrow.Author.Needs.{needs}
 use Rattle.answers.specs.Writing.{Written}
@@ -11,9 +11,6 @@ use Rattle.answers.specs.Answers.{spaced}
 use Rattle.answers.proofs.Writing.{behind, byte-behind, spaced-more, nothing}
 use Rattle.answers.proofs.put_numbers.Statement.{statement}
 use Rattle.answers.proofs.put_numbers.Tie as tie
-use Rattle.answers.proofs.put_numbers.Reads as reads
-use Rattle.answers.proofs.put_numbers.Lts as lts
-use Rattle.answers.proofs.put_number.Reads as put-number-reads
 
 abbrev Inv-loop : tie.InvT-loop
 Inv-loop out₀ at numbers next₀ i₀ out next i =
@@ -22,40 +19,31 @@ Inv-loop out₀ at numbers next₀ i₀ out next i =
 abbrev μ-loop : tie.MeasureT-loop
 μ-loop out₀ at numbers next₀ i₀ out next i = length numbers - i
 
--- src/lib.rt:60:5
 loop-holds : tie.Need-loop-holds Inv-loop μ-loop
 unfolding spaced
 loop-holds c = (omega arith, refl, omega arith, nothing _ _ (omega arith))
 
--- src/lib.rt:61:9
 slice-write-out : tie.Need-slice-write-out Inv-loop μ-loop
 slice-write-out c = omega arith
 
--- src/lib.rt:62:32
 add-put-number : tie.Need-add-put-number Inv-loop μ-loop
 add-put-number c = omega arith
 
--- src/lib.rt:62:42
 mul-put-number : tie.Need-mul-put-number Inv-loop μ-loop
 mul-put-number c = search needs
 
--- src/lib.rt:62:42
 shared-slice-read-put-number : tie.Need-shared-slice-read-put-number Inv-loop μ-loop
 shared-slice-read-put-number c = search needs
 
--- src/lib.rt:62:9
 put-number-requires : tie.Need-put-number-requires Inv-loop μ-loop
 put-number-requires c κs = simp length-set (omega arith)
 
--- src/lib.rt:63:9
 add-i : tie.Need-add-i Inv-loop μ-loop
 add-i c = omega arith
 
--- src/lib.rt:60:5
 loop-less : tie.Need-loop-less Inv-loop μ-loop
 loop-less c = omega arith
 
--- src/lib.rt:60:5
 loop-again : tie.Need-loop-again Inv-loop μ-loop
 loop-again c =
     let w = c .before .before .put-number in
@@ -68,11 +56,9 @@ loop-again c =
       rw (spaced-more s (p .loop .i) (omega arith)) (behind (byte-behind 32 (omega arith) (p .loop .inv .3)) (w .ensures .0)),
     )
 
--- src/lib.rt:53:1
 same-length : tie.Need-same-length Inv-loop μ-loop
 same-length c = search needs
 
--- src/lib.rt:53:1
 returns : tie.Need-returns Inv-loop μ-loop
 returns c =
     let p = c .before in

@@ -11,10 +11,6 @@ use borrow.Kind.Array.{eInt, good-length}
 use borrow.Author.Needs.{needs}
 use Rattle.answers.proofs.put_over.Statement.{statement}
 use Rattle.answers.proofs.put_over.Tie as tie
-use Rattle.answers.proofs.put_over.Reads as reads
-use Rattle.answers.proofs.put_over.Lts as lts
-use Rattle.answers.proofs.over_numbers.Reads as over-numbers-reads
-use Rattle.answers.proofs.put_line.Reads as put-line-reads
 
 twelve : (c : tie.Start) → length (c .args .months) ≡ 12
 twelve c = good-length (eInt w32) 12 (c .args .months) _ (c .good .1 .1 .1 .1 .1 .1 .0)
@@ -25,57 +21,44 @@ take-behind-four t a b c d xs = let e : 4 + t ≡ suc (suc (suc (suc t))) = omeg
 sixteen : (c : tie.After-over-numbers) → length (c .over-numbers .result) ≡ 16
 sixteen c = omega (arith, ap length (c .over-numbers .ensures), twelve (c .before .before))
 
--- src/lib.rt:113:19
 over-numbers-requires : tie.Need-over-numbers-requires
 over-numbers-requires c κs = tt
 
--- src/lib.rt:115:21
 add-count : tie.Need-add-count
 add-count c = search needs
 
--- src/lib.rt:116:34
 slice-aggregate-put-line : tie.Need-slice-aggregate-put-line
 slice-aggregate-put-line c = refl
 
--- src/lib.rt:116:46
 array-share-prefix-numbers : tie.Need-array-share-prefix-numbers
 array-share-prefix-numbers c = search needs
 
--- src/lib.rt:116:46
 slice-aggregate-put-line-2 : tie.Need-slice-aggregate-put-line-2
 slice-aggregate-put-line-2 c = omega (arith, length-take (4 + c .before .before .before .before .before .before .args .t) (c .before .before .before .before .over-numbers .result), sixteen (c .before .before .before .before))
 
--- src/lib.rt:116:9
 put-line-requires : tie.Need-put-line-requires
 put-line-requires c κs = omega (arith, length-take (4 + c .before .before .before .before .before .before .args .t) (c .before .before .before .before .over-numbers .result), sixteen (c .before .before .before .before))
 
--- src/lib.rt:116:9
 same-length : tie.Need-same-length
 same-length c = c .before .before .put-line .kept .0
 
--- src/lib.rt:116:9
 returns : tie.Need-returns
 returns c =
     let st = c .before .before .before .before .before .before .before .before .before in
     rw (take-behind-four (st .args .t) 11 (st .args .region) (st .args .method) (st .args .excess) (st .args .months)) at (rw (c .before .before .before .before .before .before .before .over-numbers .ensures) at (c .before .before .put-line .ensures))
 
--- src/lib.rt:118:23
 slice-aggregate-put-line-3 : tie.Need-slice-aggregate-put-line-3
 slice-aggregate-put-line-3 c = refl
 
--- src/lib.rt:118:35
 slice-aggregate-put-line-4 : tie.Need-slice-aggregate-put-line-4
 slice-aggregate-put-line-4 c = search needs
 
--- src/lib.rt:118:5
 put-line-requires-2 : tie.Need-put-line-requires-2
 put-line-requires-2 c κs = search needs
 
--- src/lib.rt:109:1
 same-length-2 : tie.Need-same-length-2
 same-length-2 c = c .before .before .put-line2 .kept .0
 
--- src/lib.rt:109:1
 returns-2 : tie.Need-returns-2
 returns-2 c =
     let e = c .before .before .before .before .before .before .before .over-numbers .ensures in

@@ -2,87 +2,63 @@
 -- Assumes nothing.
 use mathlib.Core.Path.{refl}
 use native.Mathlib.Omega.{arith}
-use Rattle.answers.specs.Answers.{line, spaced}
 use borrow.Author.Needs.{needs}
+use Rattle.answers.specs.Answers.{line, spaced}
 use Rattle.answers.proofs.put_reply.Statement.{statement}
 use Rattle.answers.proofs.put_reply.Tie as tie
-use Rattle.answers.proofs.put_reply.Reads as reads
-use Rattle.answers.proofs.put_reply.Lts as lts
-use Rattle.answers.proofs.put_ok.Reads as put-ok-reads
-use Rattle.answers.proofs.put_over.Reads as put-over-reads
-use Rattle.answers.proofs.put_refused.Reads as put-refused-reads
-use Rattle.answers.proofs.put_text.Reads as put-text-reads
 
--- src/lib.rt:137:37
 enum-told : tie.Need-enum-told
 enum-told c = c .match .keys1
 
--- src/lib.rt:137:46
 slice-aggregate-put-text : tie.Need-slice-aggregate-put-text
 slice-aggregate-put-text c = refl
 
--- src/lib.rt:137:28
 put-text-requires : tie.Need-put-text-requires
 put-text-requires c κs = omega arith
 
--- src/lib.rt:138:23
 enum-known-reply : tie.Need-enum-known-reply
 enum-known-reply c = c .match .keys2
 
--- src/lib.rt:138:49
 cast-put-ok : tie.Need-cast-put-ok
 cast-put-ok c = search needs
 
--- src/lib.rt:138:33
 put-ok-requires : tie.Need-put-ok-requires
 put-ok-requires c κs = omega arith
 
--- src/lib.rt:139:24
 enum-known-reply-2 : tie.Need-enum-known-reply-2
 enum-known-reply-2 c = c .match .keys3
 
--- src/lib.rt:139:30
 put-refused-requires : tie.Need-put-refused-requires
 put-refused-requires c κs = omega arith
 
--- src/lib.rt:140:21
 enum-known-reply-3 : tie.Need-enum-known-reply-3
 enum-known-reply-3 c = c .match .keys4
 
--- src/lib.rt:141:13
 put-over-requires : tie.Need-put-over-requires
 put-over-requires c κs = omega arith
 
--- src/lib.rt:132:1
 same-length : tie.Need-same-length
 same-length c = c .before .before .put-text .kept .0
 
--- src/lib.rt:132:1
 returns : tie.Need-returns
 unfolding line spaced
 returns c = rw (c .before .before .before .before .before .enum-told .given .1) (c .before .before .put-text .ensures)
 
--- src/lib.rt:132:1
 same-length-2 : tie.Need-same-length-2
 same-length-2 c = c .before .before .put-ok .kept .0
 
--- src/lib.rt:132:1
 returns-2 : tie.Need-returns-2
 returns-2 c = rw (c .before .before .before .before .before .reply .given .1) (c .before .before .put-ok .ensures)
 
--- src/lib.rt:132:1
 same-length-3 : tie.Need-same-length-3
 same-length-3 c = c .before .before .put-refused .kept .0
 
--- src/lib.rt:132:1
 returns-3 : tie.Need-returns-3
 returns-3 c = rw (c .before .before .before .before .before .reply2 .given .1) (c .before .before .put-refused .ensures)
 
--- src/lib.rt:132:1
 same-length-4 : tie.Need-same-length-4
 same-length-4 c = c .before .before .put-over .kept .0
 
--- src/lib.rt:132:1
 returns-4 : tie.Need-returns-4
 returns-4 c = rw (c .before .before .before .before .before .reply3 .given .1) (c .before .before .put-over .ensures)
 

@@ -2,68 +2,48 @@
 -- Assumes nothing.
 use mathlib.Core.Path.{refl}
 use native.Mathlib.Omega.{arith}
-use borrow.Author.Needs.{needs}
 use Rattle.answers.proofs.put_told.Statement.{statement}
 use Rattle.answers.proofs.put_told.Tie as tie
-use Rattle.answers.proofs.put_told.Reads as reads
-use Rattle.answers.proofs.put_told.Lts as lts
-use Rattle.answers.proofs.put_line.Reads as put-line-reads
-use Rattle.answers.proofs.put_ok.Reads as put-ok-reads
-use Rattle.answers.proofs.put_refused.Reads as put-refused-reads
 
--- src/lib.rt:152:23
 enum-known-told : tie.Need-enum-known-told
 enum-known-told c = c .match .keys1
 
--- src/lib.rt:152:29
 put-refused-requires : tie.Need-put-refused-requires
 put-refused-requires c κs = omega arith
 
--- src/lib.rt:153:22
 enum-known-told-2 : tie.Need-enum-known-told-2
 enum-known-told-2 c = c .match .keys2
 
--- src/lib.rt:153:28
 put-ok-requires : tie.Need-put-ok-requires
 put-ok-requires c κs = omega arith
 
--- src/lib.rt:154:23
 enum-known-told-3 : tie.Need-enum-known-told-3
 enum-known-told-3 c = c .match .keys3
 
--- src/lib.rt:154:50
 slice-aggregate-put-line : tie.Need-slice-aggregate-put-line
 slice-aggregate-put-line c = refl
 
--- src/lib.rt:154:57
 slice-aggregate-put-line-2 : tie.Need-slice-aggregate-put-line-2
 slice-aggregate-put-line-2 c = refl
 
--- src/lib.rt:154:32
 put-line-requires : tie.Need-put-line-requires
 put-line-requires c κs = omega arith
 
--- src/lib.rt:147:1
 same-length : tie.Need-same-length
 same-length c = c .before .before .put-refused .kept .0
 
--- src/lib.rt:147:1
 returns : tie.Need-returns
 returns c = rw (c .before .before .before .before .before .told .given .1) (c .before .before .put-refused .ensures)
 
--- src/lib.rt:147:1
 same-length-2 : tie.Need-same-length-2
 same-length-2 c = c .before .before .put-ok .kept .0
 
--- src/lib.rt:147:1
 returns-2 : tie.Need-returns-2
 returns-2 c = rw (c .before .before .before .before .before .told2 .given .1) (c .before .before .put-ok .ensures)
 
--- src/lib.rt:147:1
 same-length-3 : tie.Need-same-length-3
 same-length-3 c = c .before .before .put-line .kept .0
 
--- src/lib.rt:147:1
 returns-3 : tie.Need-returns-3
 returns-3 c = rw (c .before .before .before .before .before .before .before .told3 .given .1) (c .before .before .put-line .ensures)
 

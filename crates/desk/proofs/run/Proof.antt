@@ -8,10 +8,6 @@ use Rattle.desk.specs.Desk.{Steady}
 use Rattle.desk.proofs.Taking.{steady-as}
 use Rattle.desk.proofs.run.Statement.{statement}
 use Rattle.desk.proofs.run.Tie as tie
-use Rattle.desk.proofs.run.Reads as reads
-use Rattle.desk.proofs.run.Lts as lts
-use Rattle.book.proofs.fresh_book.Reads as fresh-book-reads
-use Rattle.desk.proofs.turn.Reads as turn-reads
 
 abbrev Inv-loop : tie.InvT-loop
 Inv-loop input₀ numbers₀ out₀ d₀ turns₀ input numbers out d turns =
@@ -21,11 +17,9 @@ Inv-loop input₀ numbers₀ out₀ d₀ turns₀ input numbers out d turns =
 abbrev μ-loop : tie.MeasureT-loop
 μ-loop input₀ numbers₀ out₀ d₀ turns₀ input numbers out d turns = turns
 
--- src/main.rt:303:15
 fresh-book-requires : tie.Need-fresh-book-requires Inv-loop μ-loop
 fresh-book-requires c κs = tt
 
--- src/main.rt:314:5
 loop-holds : tie.Need-loop-holds Inv-loop μ-loop
 loop-holds c =
     let p = c .before .before .before .before .pre in (
@@ -34,8 +28,7 @@ loop-holds c =
       refl,
       record {
         reachable = rw (c .fresh-book .ensures) fresh-reachable;
-        ordered = omega arith;
-        inside = omega arith;
+        holds = record { ordered = omega arith; inside = omega arith };
         waiting = omega arith;
         input-size = p .0;
         numbers-size = p .1;
@@ -43,54 +36,42 @@ loop-holds c =
       },
     )
 
--- src/main.rt:315:9
 turn-requires : tie.Need-turn-requires Inv-loop μ-loop
 turn-requires c κs = let i = c .before .before .before .before .before .loop .inv in steady-as (sym (i .0)) (sym (i .1)) (sym (i .2)) (i .3)
 
--- src/main.rt:316:9
 sub-turns : tie.Need-sub-turns Inv-loop μ-loop
 sub-turns c = omega arith
 
--- src/main.rt:314:5
 loop-less : tie.Need-loop-less Inv-loop μ-loop
 loop-less c = omega arith
 
--- src/main.rt:314:5
 loop-again : tie.Need-loop-again Inv-loop μ-loop
 loop-again c =
     let i = c .before .before .before .before .before .before .before .before .before .before .before .before .loop .inv in
     let t = c .before .before .before .before .before .before .turn in
-    (t .kept .1 .0 ∙ i .0, t .kept .1 .1 .0 ∙ i .1, t .kept .1 .1 .1 .0 ∙ i .2, steady-as (i .0) (i .1) (i .2) (t .ensures))
+    (t .kept .1 .0 ∙ i .0, t .kept .1 .1 .0 ∙ i .1, t .kept .1 .1 .1 .0 ∙ i .2, steady-as (i .0) (i .1) (i .2) (t .ensures .1))
 
--- src/main.rt:299:1
 same-length : tie.Need-same-length Inv-loop μ-loop
 same-length c = c .before .before .loop .inv .0
 
--- src/main.rt:299:1
 same-length-2 : tie.Need-same-length-2 Inv-loop μ-loop
 same-length-2 c = c .before .before .loop .inv .1
 
--- src/main.rt:299:1
 same-length-3 : tie.Need-same-length-3 Inv-loop μ-loop
 same-length-3 c = c .before .before .loop .inv .2
 
--- src/main.rt:299:1
 returns : tie.Need-returns Inv-loop μ-loop
 returns c = tt
 
--- src/main.rt:299:1
 same-length-4 : tie.Need-same-length-4 Inv-loop μ-loop
 same-length-4 c = c .before .loop .inv .0
 
--- src/main.rt:299:1
 same-length-5 : tie.Need-same-length-5 Inv-loop μ-loop
 same-length-5 c = c .before .loop .inv .1
 
--- src/main.rt:299:1
 same-length-6 : tie.Need-same-length-6 Inv-loop μ-loop
 same-length-6 c = c .before .loop .inv .2
 
--- src/main.rt:299:1
 returns-2 : tie.Need-returns-2 Inv-loop μ-loop
 returns-2 c = tt
 

@@ -8,8 +8,6 @@ use Rattle.laws.proofs.Filled.{filled-more, left-more}
 use Rattle.desk.proofs.Taking.{front-is}
 use Rattle.desk.proofs.to_front.Statement.{statement}
 use Rattle.desk.proofs.to_front.Tie as tie
-use Rattle.desk.proofs.to_front.Reads as reads
-use Rattle.desk.proofs.to_front.Lts as lts
 
 abbrev Inv-loop : tie.InvT-loop
 Inv-loop input₀ from to n i₀ input i =
@@ -19,35 +17,27 @@ Inv-loop input₀ from to n i₀ input i =
 abbrev μ-loop : tie.MeasureT-loop
 μ-loop input₀ from to n i₀ input i = to - from - i
 
--- src/main.rt:192:13
 sub-n : tie.Need-sub-n Inv-loop μ-loop
 sub-n c = omega arith
 
--- src/main.rt:194:5
 loop-holds : tie.Need-loop-holds Inv-loop μ-loop
 loop-holds c = (refl, omega arith, λ j k. absurd (omega arith), λ j k. refl)
 
--- src/main.rt:195:26
 add-input : tie.Need-add-input Inv-loop μ-loop
 add-input c = omega arith
 
--- src/main.rt:195:20
 slice-read-input : tie.Need-slice-read-input Inv-loop μ-loop
 slice-read-input c = omega arith
 
--- src/main.rt:195:9
 slice-write-input : tie.Need-slice-write-input Inv-loop μ-loop
 slice-write-input c = omega arith
 
--- src/main.rt:196:9
 add-i : tie.Need-add-i Inv-loop μ-loop
 add-i c = omega arith
 
--- src/main.rt:194:5
 loop-less : tie.Need-loop-less Inv-loop μ-loop
 loop-less c = omega arith
 
--- src/main.rt:194:5
 loop-again : tie.Need-loop-again Inv-loop μ-loop
 loop-again c =
     let p = c .before .before in
@@ -61,11 +51,9 @@ loop-again c =
       left-more 0 xs i v (λ j. getD (st .args .input .now) j 0) (p .loop .inv .3),
     )
 
--- src/main.rt:188:1
 same-length : tie.Need-same-length Inv-loop μ-loop
 same-length c = c .before .loop .inv .0
 
--- src/main.rt:188:1
 returns : tie.Need-returns Inv-loop μ-loop
 returns c =
     let p = c .before in

@@ -1,11 +1,10 @@
 -- What the desk does with one line, as the protocol says: the book after it, and its answer.
 -- Assumes nothing.
-use mathlib.Core.Path.{_≡_}
 use mathlib.Core.Bool.{Bool, cond, _||_}
 use mathlib.Core.List.{List}
-use Prim.Native.Nat.{ℕ, _≤_}
+use Prim.Native.Nat.{ℕ, _-_}
 use lib.Dec.{ltb}
-use lib.ListN.{length, getD, drop}
+use lib.ListN.{length, getD, take, drop}
 use Rattle.calendar.specs.declared.Period.{Period}
 use Rattle.book.specs.declared.Book.{Book}
 use Rattle.book.specs.Calls as call
@@ -20,12 +19,12 @@ use Rattle.request.specs.declared.Request.{Request}
 use Rattle.request.specs.declared.Request.the-variants.{Nothing, Call, Unknown, NotANumber, WrongCount}
 use Rattle.request.specs.Protocol.{requestOf, numbersOf}
 use Rattle.answers.specs.Answers.{answerText, toldText, tooLong, problemText}
-use Rattle.desk.specs.declared.Step.{Step}
-use Rattle.desk.specs.declared.Step.the-variants.{Set, Put, Open, Close, Drop}
-use Rattle.desk.specs.declared.Query.{Query}
-use Rattle.desk.specs.declared.Query.the-variants.{Benchmark, Maximum, Quote}
-use Rattle.desk.specs.declared.Kind.{Kind}
-use Rattle.desk.specs.declared.Kind.the-variants as kind
+use Rattle.protocol.specs.declared.Step.{Step}
+use Rattle.protocol.specs.declared.Step.the-variants.{Set, Put, Open, Close, Drop}
+use Rattle.protocol.specs.declared.Query.{Query}
+use Rattle.protocol.specs.declared.Query.the-variants.{Benchmark, Maximum, Quote}
+use Rattle.protocol.specs.declared.Kind.{Kind}
+use Rattle.protocol.specs.declared.Kind.the-variants as kind
 
 -- five words ask for a step and three for what the book tells
 abbrev pub kindOf : Word → Kind
@@ -86,10 +85,11 @@ requestLine b l (WrongCount w) ns = problemLine b l (WrongCount w)
 abbrev pub longLine : Book → ℕ → Line
 longLine b l = record { book = b; text = tooLong l }
 
-abbrev pub pickLine : Bool → Line → Line → Line
-pickLine t a b = cond t a b
-
 unfoldable pub lineAt : Book → ℕ → (cut : Bool) → List ℕ → Line
 lineAt b l cut bytes =
-    pickLine (cut || ltb 16384 (length bytes)) (longLine b l)
+    cond (cut || ltb 16384 (length bytes)) (longLine b l)
     (requestLine b l (requestOf (withoutReturn bytes)) (numbersOf (withoutReturn bytes)))
+
+-- the bytes of the input from one place to another
+abbrev pub between : List ℕ → ℕ → ℕ → List ℕ
+between input from to = take (to - from) (drop from input)

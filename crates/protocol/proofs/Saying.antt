@@ -10,6 +10,7 @@ use lib.ListN.{length, take}
 use borrow.Author.Tests.{lt-ltb, le-ltb}
 use Rattle.book.specs.declared.Book.{Book}
 use Rattle.book.specs.declared.Done.{Done}
+use Rattle.book.specs.Calls as calls
 use Rattle.book.specs.Book.{Reachable}
 use Rattle.book.specs.Promises.{answerOf, Does}
 use Rattle.book.proofs.Reached.{step-reachable}
@@ -23,13 +24,13 @@ use Rattle.request.proofs.Request.{the-type}
 use Rattle.request.specs.Protocol.{requestOf, numbersOf, RightCount, Ready}
 use Rattle.answers.specs.Writing.{Written}
 use Rattle.answers.specs.Answers.{answerText, toldText, problemText}
-use Rattle.desk.specs.declared.Step.{Step}
-use Rattle.desk.specs.declared.Query.{Query}
-use Rattle.desk.specs.declared.Kind.{Kind}
-use Rattle.desk.specs.declared.Kind.the-variants.{Steps, Tells}
-use Rattle.desk.specs.declared.Said.the-variants.{Answer, Do}
-use Rattle.desk.specs.Lines.{kindOf, stepOf, toldOf, Line, stepLine, callLine, problemLine, requestLine, longLine, lineAt}
-use Rattle.desk.specs.Desk.{StepCount, QueryCount, Says}
+use Rattle.protocol.specs.declared.Step.{Step}
+use Rattle.protocol.specs.declared.Query.{Query}
+use Rattle.protocol.specs.declared.Kind.{Kind}
+use Rattle.protocol.specs.declared.Kind.the-variants.{Steps, Tells}
+use Rattle.protocol.specs.declared.Said.the-variants.{Answer, Do}
+use Rattle.protocol.specs.Lines.{kindOf, toldOf, stepLine, callLine, problemLine, requestLine, longLine, lineAt}
+use Rattle.protocol.specs.Said.{StepCount, QueryCount, Answered, Says}
 
 -- the count that is right for a word is right for its kind
 abbrev KindCount : Kind → ℕ → Type 0
@@ -58,14 +59,14 @@ no-call b l Unknown ns k = refl
 no-call b l (NotANumber n) ns k = refl
 no-call b l (WrongCount w) ns k = refl
 
-module _ (b : Book) (l : ℕ) (line numbers : List ℕ) (at : ℕ) (before after : List ℕ) where
+module _ (b : Book) (reach : Reachable b) (l : ℕ) (line numbers : List ℕ) (at : ℕ) (before after : List ℕ) where
   pub says-problem : (q : Request) (next : ℕ) → q ≡ requestOf line → OneOf (0 ∷ 2 ∷ 3 ∷ 4 ∷ []) (tagOf the-type q)
       → Written before at (problemText l q) next after
       → Says (Answer next) b (requestLine b l (requestOf line) (numbersOf line)) at before after numbers
   says-problem q next e k w =
       subst (λ x. Says (Answer next) b x at before after numbers)
       (sym (ap (λ x. requestLine b l x (numbersOf line)) (sym e) ∙ no-call b l q (numbersOf line) k))
-      (refl, w)
+      (record { book = refl; reachable = reach; text = w })
 
   module _ (q : Request) (w : Word) (n : ℕ) (k : Kind) (asked : q ≡ requestOf line) (call : q ≡ Call w n) (kind : kindOf w ≡ k) (ready : Ready w n line numbers) where
     line-is : requestLine b l (requestOf line) (numbersOf line) ≡ callLine b k (take n numbers)
@@ -85,7 +86,7 @@ module _ (b : Book) (l : ℕ) (line numbers : List ℕ) (at : ℕ) (before after
   says-told q w n t told next asked call kind ready e written =
       subst (λ x. Says (Answer next) b x at before after numbers)
       (sym (line-is q w n (Tells t) asked call kind ready))
-      (refl, rw e at written)
+      (record { book = refl; reachable = reach; text = rw e at written })
 
 -- a line that is too long, and one that is not
 module _ (b : Book) (l : ℕ) (cut : Bool) (bytes : List ℕ) where
@@ -102,20 +103,12 @@ module _ (b : Book) (l : ℕ) (cut : Bool) (bytes : List ℕ) where
   unfolding lineAt
   short-line e h = rw (e, le-ltb 16384 (length bytes) h) refl
 
--- a line was done with: the book after it, and its answer behind what was written before
-pub record LineDone (line : Line) (book′ : Book) (before : List ℕ) (at : ℕ) (at′ : ℕ) (after : List ℕ) : Type 0 where
-  pub book : book′ ≡ line .book
-  pub reachable : Reachable book′
-  pub text : Written before at (line .text) at′ after
-
 -- a step that was done is what its line asks for
-pub step-done : (b : Book) (line : Line) (s : Step) (ns : List ℕ) (did : Done) (before same : List ℕ) (at at′ : ℕ) (after : List ℕ)
-    → line ≡ stepLine b (stepOf s ns) → Does b (stepOf s ns) did → Reachable b → same ≡ before
-    → Written same at (answerText (answerOf (did .reply) (did .months))) at′ after
-    → LineDone line (did .book) before at at′ after
-step-done b line s ns did before same at at′ after e does r q w =
+pub step-done : (b : Book) (c : calls.Call) (did : Done) (before : List ℕ) (at next : ℕ) (after : List ℕ) → Does b c did → Reachable b
+    → Written before at (answerText (answerOf (did .reply) (did .months))) next after → Answered (stepLine b c) (did .book) before at next after
+step-done b c did before at next after does r w =
     record {
-      book = does .leaves ∙ sym (ap (λ x. x .book) e);
-      reachable = subst Reachable (sym (does .leaves)) (step-reachable r (stepOf s ns));
-      text = rw (e, ← does .answers, ← q) w;
+      book = does .leaves;
+      reachable = subst Reachable (sym (does .leaves)) (step-reachable r c);
+      text = rw (← does .answers) w;
     }

@@ -1,18 +1,13 @@
--- `desk::told` meets its contract, query by query.
+-- `protocol::told` meets its contract, query by query.
 -- Assumes nothing.
 use mathlib.Core.Path.{_≡_}
 use Prim.Native.Nat.{_≤_}
 use native.Mathlib.Omega.{arith}
 use lib.ListN.{length}
-use Rattle.desk.proofs.Taking.{rest}
 use borrow.Author.Needs.{needs}
-use Rattle.desk.proofs.told.Statement.{statement}
-use Rattle.desk.proofs.told.Tie as tie
-use Rattle.desk.proofs.told.Reads as reads
-use Rattle.desk.proofs.told.Lts as lts
-use Rattle.queries.proofs.benchmark.Reads as benchmark-reads
-use Rattle.queries.proofs.maximum.Reads as maximum-reads
-use Rattle.queries.proofs.quote.Reads as quote-reads
+use Rattle.protocol.proofs.Parts.{rest}
+use Rattle.protocol.proofs.told.Statement.{statement}
+use Rattle.protocol.proofs.told.Tie as tie
 
 benchmark-count : (c : tie.After-enum-told) → length (c .before .before .before .args .numbers .now) ≡ 4
 benchmark-count c = rw (c .enum-told .given .1) at (c .before .before .before .pre .1)
@@ -23,95 +18,72 @@ maximum-count c = rw (c .enum-told2 .given .1) at (c .before .before .before .pr
 quote-count : (c : tie.After-enum-told3) → 3 ≤ length (c .before .before .before .args .numbers .now)
 quote-count c = rw (c .enum-told3 .given .1) at (c .before .before .before .pre .1)
 
--- src/main.rt:80:51
 enum-told : tie.Need-enum-told
 enum-told c = c .match .keys1
 
--- src/main.rt:80:51
 shared-slice-read-benchmark : tie.Need-shared-slice-read-benchmark
 shared-slice-read-benchmark c = omega (arith, benchmark-count (c .before))
 
--- src/main.rt:80:63
 shared-slice-read-benchmark-2 : tie.Need-shared-slice-read-benchmark-2
 shared-slice-read-benchmark-2 c = omega (arith, benchmark-count (c .before .before))
 
--- src/main.rt:80:75
 shared-slice-read-benchmark-3 : tie.Need-shared-slice-read-benchmark-3
 shared-slice-read-benchmark-3 c = omega (arith, benchmark-count (c .before .before .before))
 
--- src/main.rt:80:87
 shared-slice-read-benchmark-4 : tie.Need-shared-slice-read-benchmark-4
 shared-slice-read-benchmark-4 c = omega (arith, benchmark-count (c .before .before .before .before))
 
--- src/main.rt:80:29
 benchmark-requires : tie.Need-benchmark-requires
 benchmark-requires c κs = search needs
 
--- src/main.rt:81:47
 enum-told-2 : tie.Need-enum-told-2
 enum-told-2 c = c .match .keys2
 
--- src/main.rt:81:47
 shared-slice-read-maximum : tie.Need-shared-slice-read-maximum
 shared-slice-read-maximum c = omega (arith, maximum-count (c .before))
 
--- src/main.rt:81:59
 shared-slice-read-maximum-2 : tie.Need-shared-slice-read-maximum-2
 shared-slice-read-maximum-2 c = omega (arith, maximum-count (c .before .before))
 
--- src/main.rt:81:71
 shared-slice-read-maximum-3 : tie.Need-shared-slice-read-maximum-3
 shared-slice-read-maximum-3 c = omega (arith, maximum-count (c .before .before .before))
 
--- src/main.rt:81:83
 shared-slice-read-maximum-4 : tie.Need-shared-slice-read-maximum-4
 shared-slice-read-maximum-4 c = omega (arith, maximum-count (c .before .before .before .before))
 
--- src/main.rt:81:27
 maximum-requires : tie.Need-maximum-requires
 maximum-requires c κs = search needs
 
--- src/main.rt:82:43
 enum-told-3 : tie.Need-enum-told-3
 enum-told-3 c = c .match .keys3
 
--- src/main.rt:82:43
 shared-slice-read-quote : tie.Need-shared-slice-read-quote
 shared-slice-read-quote c = omega (arith, quote-count (c .before))
 
--- src/main.rt:82:55
 shared-slice-read-quote-2 : tie.Need-shared-slice-read-quote-2
 shared-slice-read-quote-2 c = omega (arith, quote-count (c .before .before))
 
--- src/main.rt:82:67
 shared-slice-read-quote-3 : tie.Need-shared-slice-read-quote-3
 shared-slice-read-quote-3 c = omega (arith, quote-count (c .before .before .before))
 
--- src/main.rt:82:79
 sub-quote : tie.Need-sub-quote
 sub-quote c = omega (arith, quote-count (c .before .before .before))
 
--- src/main.rt:82:79
 part-quote-start : tie.Need-part-quote-start
 part-quote-start c = omega (arith, quote-count (c .before .before .before))
 
--- src/main.rt:82:79
 part-quote-end : tie.Need-part-quote-end
 part-quote-end c = search needs
 
--- src/main.rt:82:25
 quote-requires : tie.Need-quote-requires
 quote-requires c κs = search needs
 
--- src/main.rt:75:1
 returns : tie.Need-returns
 returns c = rw (c .before .before .before .before .before .enum-told .given .1) (c .benchmark .ensures)
 
--- src/main.rt:75:1
 returns-2 : tie.Need-returns-2
 returns-2 c = rw (c .before .before .before .before .before .enum-told2 .given .1) (c .maximum .ensures)
 
--- src/main.rt:75:1
 returns-3 : tie.Need-returns-3
 returns-3 c = rw (c .before .before .before .before .before .enum-told3 .given .1) (rw (rest 3 (c .before .before .before .before .before .before .before .before .args .numbers .now)) at (c .quote .ensures))
 

@@ -1,74 +1,55 @@
--- `desk::kind_of` meets its contract, word by word.
+-- `protocol::kind_of` meets its contract, word by word.
 -- Assumes nothing.
 use mathlib.Core.Path.{sym, ap}
-use Rattle.desk.specs.Lines.{kindOf}
-use borrow.Author.Needs.{needs}
-use Rattle.desk.proofs.kind_of.Statement.{statement}
-use Rattle.desk.proofs.kind_of.Tie as tie
-use Rattle.desk.proofs.kind_of.Reads as reads
-use Rattle.desk.proofs.kind_of.Lts as lts
+use Rattle.protocol.specs.Lines.{kindOf}
+use Rattle.protocol.proofs.kind_of.Statement.{statement}
+use Rattle.protocol.proofs.kind_of.Tie as tie
 
--- src/main.rt:42:34
 enum-told : tie.Need-enum-told
 enum-told c = c .match .keys1
 
--- src/main.rt:43:34
 enum-told-2 : tie.Need-enum-told-2
 enum-told-2 c = c .match .keys2
 
--- src/main.rt:44:35
 enum-told-3 : tie.Need-enum-told-3
 enum-told-3 c = c .match .keys3
 
--- src/main.rt:45:36
 enum-told-4 : tie.Need-enum-told-4
 enum-told-4 c = c .match .keys4
 
--- src/main.rt:46:35
 enum-told-5 : tie.Need-enum-told-5
 enum-told-5 c = c .match .keys5
 
--- src/main.rt:47:40
 enum-told-6 : tie.Need-enum-told-6
 enum-told-6 c = c .match .keys6
 
--- src/main.rt:48:38
 enum-told-7 : tie.Need-enum-told-7
 enum-told-7 c = c .match .keys7
 
--- src/main.rt:49:36
 enum-told-8 : tie.Need-enum-told-8
 enum-told-8 c = c .match .keys8
 
--- src/main.rt:38:1
 returns : tie.Need-returns
 returns c = sym (ap kindOf (c .enum-told .given .1))
 
--- src/main.rt:38:1
 returns-2 : tie.Need-returns-2
 returns-2 c = sym (ap kindOf (c .enum-told2 .given .1))
 
--- src/main.rt:38:1
 returns-3 : tie.Need-returns-3
 returns-3 c = sym (ap kindOf (c .enum-told3 .given .1))
 
--- src/main.rt:38:1
 returns-4 : tie.Need-returns-4
 returns-4 c = sym (ap kindOf (c .enum-told4 .given .1))
 
--- src/main.rt:38:1
 returns-5 : tie.Need-returns-5
 returns-5 c = sym (ap kindOf (c .enum-told5 .given .1))
 
--- src/main.rt:38:1
 returns-6 : tie.Need-returns-6
 returns-6 c = sym (ap kindOf (c .enum-told6 .given .1))
 
--- src/main.rt:38:1
 returns-7 : tie.Need-returns-7
 returns-7 c = sym (ap kindOf (c .enum-told7 .given .1))
 
--- src/main.rt:38:1
 returns-8 : tie.Need-returns-8
 returns-8 c = sym (ap kindOf (c .enum-told8 .given .1))
 

@@ -1,95 +1,70 @@
--- `desk::say` meets its contract: a problem, a step or a query, by the request and its kind.
+-- `protocol::say` meets its contract: a problem, a step or a query, by the request and its kind.
 -- Assumes nothing.
 use mathlib.Core.Path.{refl, sym, _∙_}
 use lib.Seq.{length-take-le}
-use Rattle.request.specs.Protocol.{Ready}
-use Rattle.desk.proofs.Saying.{says-problem, says-step, says-told, count-of}
 use borrow.Author.Needs.{needs}
-use Rattle.desk.proofs.say.Statement.{statement}
-use Rattle.desk.proofs.say.Tie as tie
-use Rattle.desk.proofs.say.Reads as reads
-use Rattle.desk.proofs.say.Lts as lts
-use Rattle.answers.proofs.put_problem.Reads as put-problem-reads
-use Rattle.answers.proofs.put_told.Reads as put-told-reads
-use Rattle.desk.proofs.kind_of.Reads as kind-of-reads
-use Rattle.desk.proofs.told.Reads as told-reads
-use Rattle.request.proofs.request_of.Reads as request-of-reads
+use Rattle.request.specs.Protocol.{Ready}
+use Rattle.protocol.proofs.Saying.{says-problem, says-step, says-told, count-of}
+use Rattle.protocol.proofs.say.Statement.{statement}
+use Rattle.protocol.proofs.say.Tie as tie
 
 -- a call's numbers stand where they should
 ready : (c : tie.After-known-told) → Ready (c .before .asked .given .0 .0) (c .before .asked .given .0 .1 .0) (c .before .before .before .before .before .before .before .before .before .before .args .line .now) (c .before .before .before .before .before .request-of .last .1 .0)
 ready c = rw (c .before .asked .given .1) at (c .before .before .before .before .before .request-of .ensures .1)
 
--- src/main.rt:97:9
 request-of-requires : tie.Need-request-of-requires
 request-of-requires c κs = search needs
 
--- src/main.rt:98:23
 enum-known-asked : tie.Need-enum-known-asked
 enum-known-asked c = search needs
 
--- src/main.rt:99:29
 put-problem-requires : tie.Need-put-problem-requires
 put-problem-requires c κs = search needs
 
--- src/main.rt:99:9
 same-length : tie.Need-same-length
 same-length c = search needs
 
--- src/main.rt:99:9
 same-length-2 : tie.Need-same-length-2
 same-length-2 c = search needs
 
--- src/main.rt:99:9
 returns : tie.Need-returns
-returns c = says-problem _ _ _ (c .before .before .before .before .before .before .before .request-of .last .1 .0) _ _ _ (c .before .before .before .before .before .before .before .request-of .result) _ (c .before .before .before .before .before .before .before .request-of .ensures .0) (c .before .before .before .before .match .keys2) (c .before .before .put-problem .ensures)
+returns c = says-problem _ (c .before .before .before .before .before .before .before .before .before .before .before .before .pre .0) _ _ (c .before .before .before .before .before .before .before .request-of .last .1 .0) _ _ _ (c .before .before .before .before .before .before .before .request-of .result) _ (c .before .before .before .before .before .before .before .request-of .ensures .0) (c .before .before .before .before .match .keys2) (c .before .before .put-problem .ensures)
 
--- src/main.rt:101:9
 kind-of-requires : tie.Need-kind-of-requires
 kind-of-requires c κs = search needs
 
--- src/main.rt:103:21
 enum-known-kind : tie.Need-enum-known-kind
 enum-known-kind c = search needs
 
--- src/main.rt:104:21
 enum-known-kind-2 : tie.Need-enum-known-kind-2
 enum-known-kind-2 c = search needs
 
--- src/main.rt:105:39
 slice-reshare-prefix-told : tie.Need-slice-reshare-prefix-told
 slice-reshare-prefix-told c = ready (c .before .before .before .before) .within
 
--- src/main.rt:105:39
 slice-aggregate-told : tie.Need-slice-aggregate-told
 slice-aggregate-told c = sym (length-take-le _ _ (ready (c .before .before .before .before .before) .within))
 
--- src/main.rt:105:17
 told-requires : tie.Need-told-requires
 told-requires c κs = (c .before .before .before .before .before .before .before .before .before .before .before .before .before .before .before .pre .0, rw (length-take-le (c .before .before .before .before .before .before .asked .given .0 .1 .0) (c .before .before .before .before .before .before .before .before .before .before .request-of .last .1 .0) (ready (c .before .before .before .before .before) .within)) (count-of (c .before .before .before .before .before .before .asked .given .0 .0) _ _ (sym (c .before .before .before .before .kind-of .ensures) ∙ c .before .before .kind2 .given .1) (ready (c .before .before .before .before .before) .right)))
 
--- src/main.rt:106:26
 put-told-requires : tie.Need-put-told-requires
 put-told-requires c κs = search needs
 
--- src/main.rt:93:1
 same-length-3 : tie.Need-same-length-3
 same-length-3 c = search needs
 
--- src/main.rt:93:1
 returns-2 : tie.Need-returns-2
-returns-2 c = says-step _ _ _ _ (c .before .before .before .before .before .before .before .before .before .before .before .before .before .before .args .at) _ _ _ _ _ _ (c .before .before .before .before .before .before .before .before .before .request-of .ensures .0) (c .before .before .before .before .before .asked .given .1) (sym (c .before .before .before .kind-of .ensures) ∙ c .before .kind .given .1) (ready (c .before .before .before .before)) refl
+returns-2 c = says-step _ (c .before .before .before .before .before .before .before .before .before .before .before .before .before .before .pre .0) _ _ _ (c .before .before .before .before .before .before .before .before .before .before .before .before .before .before .args .at) _ _ _ _ _ _ (c .before .before .before .before .before .before .before .before .before .request-of .ensures .0) (c .before .before .before .before .before .asked .given .1) (sym (c .before .before .before .kind-of .ensures) ∙ c .before .kind .given .1) (ready (c .before .before .before .before)) refl
 
--- src/main.rt:93:1
 same-length-4 : tie.Need-same-length-4
 same-length-4 c = search needs
 
--- src/main.rt:93:1
 same-length-5 : tie.Need-same-length-5
 same-length-5 c = search needs
 
--- src/main.rt:93:1
 returns-3 : tie.Need-returns-3
-returns-3 c = says-told _ _ _ _ _ _ _ _ _ _ _ _ _ (c .before .before .before .before .before .before .before .before .before .before .before .before .before .before .before .request-of .ensures .0) (c .before .before .before .before .before .before .before .before .before .before .before .asked .given .1) (sym (c .before .before .before .before .before .before .before .before .before .kind-of .ensures) ∙ c .before .before .before .before .before .before .before .kind2 .given .1) (ready (c .before .before .before .before .before .before .before .before .before .before)) (c .before .before .before .before .told .ensures) (c .before .before .put-told .ensures)
+returns-3 c = says-told _ (c .before .before .before .before .before .before .before .before .before .before .before .before .before .before .before .before .before .before .before .before .pre .0) _ _ _ _ _ _ _ _ _ _ _ _ (c .before .before .before .before .before .before .before .before .before .before .before .before .before .before .before .request-of .ensures .0) (c .before .before .before .before .before .before .before .before .before .before .before .asked .given .1) (sym (c .before .before .before .before .before .before .before .before .before .kind-of .ensures) ∙ c .before .before .before .before .before .before .before .kind2 .given .1) (ready (c .before .before .before .before .before .before .before .before .before .before)) (c .before .before .before .before .told .ensures) (c .before .before .put-told .ensures)
 
 pub say-spec : {M : Type 1} → statement M
 say-spec =

@@ -1,0 +1,158 @@
+// The protocol of the desk, line by line: what is answered to one line, and the step that it asks for (docs/PROTOCOL.md).
+// Promise: specs/Lines.antt is the desk's protocol for one line, its answer and the book after it. `say_line` answers every line that
+// leaves the book as it is, and says which step any other asks for; `do_step` does that step and answers it. They require document
+// 01's own sentence on the book, `Reachable`. The step is a call of its own so that the book is handed back only where it may change.
+ghost use mathlib.Core.Path.{_≡_};
+ghost use Prim.Native.Nat.{_+_, _≤_};
+ghost use lib.ListN.{length};
+ghost use Rattle.book.specs.Book.{Reachable};
+ghost use Rattle.book.specs.Promises.{Does};
+ghost use Rattle.request.specs.Protocol.{requestOf, numbersOf};
+ghost use Rattle.protocol.specs.Lines.{kindOf, stepOf, toldOf, stepLine, requestLine, between, lineAt};
+ghost use Rattle.protocol.specs.Said.{StepCount, QueryCount, Answered, Says};
+use book::Book;
+use book::Done;
+use calendar::Period;
+use queries::Told;
+use request::Request;
+use request::Word;
+
+// The five calls that may change the book.
+pub enum Step {
+    Set,
+    Put,
+    Open,
+    Close,
+    Drop,
+}
+
+// The three that tell of it.
+pub enum Query {
+    Benchmark,
+    Maximum,
+    Quote,
+}
+
+pub enum Kind {
+    Steps(Step),
+    Tells(Query),
+}
+
+fn kind_of(word: Word) -> Kind
+    ensures { λ r. ⌜ r ≡ kindOf word ⌝ }
+{
+    match word {
+        Word::Set => Kind::Steps(Step::Set),
+        Word::Put => Kind::Steps(Step::Put),
+        Word::Open => Kind::Steps(Step::Open),
+        Word::Close => Kind::Steps(Step::Close),
+        Word::Drop => Kind::Steps(Step::Drop),
+        Word::Benchmark => Kind::Tells(Query::Benchmark),
+        Word::Maximum => Kind::Tells(Query::Maximum),
+        Word::Quote => Kind::Tells(Query::Quote),
+    }
+}
+
+// A step with its numbers.
+fn stepped(b: Book, step: Step, numbers: &[u32]) -> Done
+    requires { ⌜ Reachable b × StepCount step (length (now numbers)) ⌝ }
+    ensures { λ r. ⌜ Does b (stepOf step (now (numbers .entry))) r ⌝ }
+{
+    match step {
+        Step::Set => {
+            let period = Period {
+                year: numbers[0],
+                month: numbers[1],
+                months: numbers[2],
+            };
+            setting::set(b, &numbers[3..], period)
+        }
+        Step::Put => book::put(b, numbers[0], &numbers[1..]),
+        Step::Open => opening::open(b, numbers[0]),
+        Step::Close => book::close(b, numbers[0]),
+        Step::Drop => book::drop(b, numbers[0]),
+    }
+}
+
+// What the book tells.
+fn told(b: Book, query: Query, numbers: &[u32]) -> Told
+    requires { ⌜ Reachable b × QueryCount query (length (now numbers)) ⌝ }
+    ensures { λ r. ⌜ r ≡ toldOf b query (now (numbers .entry)) ⌝ }
+{
+    match query {
+        Query::Benchmark => queries::benchmark(b, numbers[0], numbers[1], numbers[2], numbers[3]),
+        Query::Maximum => queries::maximum(b, numbers[0], numbers[1], numbers[2], numbers[3]),
+        Query::Quote => queries::quote(b, numbers[0], numbers[1], numbers[2], &numbers[3..]),
+    }
+}
+
+// A line was answered, up to this place of the output; or it is a step with so many numbers, which is still to be done.
+pub enum Said {
+    Answer(usize),
+    Do(Step, usize),
+}
+
+// Answers a line, without its line feed and the carriage return before it, unless it may change the book. l is its number.
+fn say(b: Book, line: &[u8], l: u64, numbers: &mut [u32], out: &mut [u8], at: usize) -> Said
+    requires { ⌜ Reachable b × (length (now line) ≤ length (now numbers)) × (at + 344 ≤ length (now out)) ⌝ }
+    ensures { λ r. ⌜ Says r b (requestLine b l (requestOf (now (line .entry))) (numbersOf (now (line .entry)))) at (now (out .entry)) (now (out .exit)) (now (numbers .exit)) ⌝ }
+{
+    let asked = request::request_of(line, numbers);
+    let Request::Call(word, n) = asked else {
+        return Said::Answer(answers::put_problem(out, at, l, asked));
+    };
+    let kind = kind_of(word);
+    match kind {
+        Kind::Steps(step) => Said::Do(step, n),
+        Kind::Tells(query) => {
+            let told = told(b, query, &numbers[..n]);
+            Said::Answer(answers::put_told(out, at, told))
+        }
+    }
+}
+
+// The same of the line input[from..to]. `cut`: its start was dropped, since it is too long.
+pub fn say_line(
+    b: Book,
+    input: &[u8],
+    from: usize,
+    to: usize,
+    cut: bool,
+    l: u64,
+    numbers: &mut [u32],
+    out: &mut [u8],
+    at: usize,
+) -> Said
+    requires { ⌜ Reachable b × (from ≤ to) × (to ≤ length (now input)) × (16384 ≤ length (now numbers)) × (at + 344 ≤ length (now out)) ⌝ }
+    ensures { λ r. ⌜ Says r b (lineAt b l cut (between (now (input .entry)) from to)) at (now (out .entry)) (now (out .exit)) (now (numbers .exit)) ⌝ }
+{
+    if cut {
+        return Said::Answer(answers::put_too_long(out, at, l));
+    }
+    if 16384 < to - from {
+        return Said::Answer(answers::put_too_long(out, at, l));
+    }
+    let end = lines::without_return(input, from, to);
+    say(b, &input[from..end], l, numbers, out, at)
+}
+
+// The book after a step, and the place behind its answer.
+pub struct After {
+    pub book: Book,
+    pub at: usize,
+}
+
+// Does a step, and answers it.
+pub fn do_step(b: Book, step: Step, numbers: &[u32], out: &mut [u8], at: usize) -> After
+    requires { ⌜ Reachable b × StepCount step (length (now numbers)) × (at + 344 ≤ length (now out)) ⌝ }
+    ensures { λ r. ⌜ Answered (stepLine b (stepOf step (now (numbers .entry)))) (r .book) (now (out .entry)) at (r .at) (now (out .exit)) ⌝ }
+{
+    let did = stepped(b, step, numbers);
+    let reply = did.reply;
+    let months = did.months;
+    let book = did.book;
+    After {
+        book,
+        at: answers::put_reply(out, at, reply, months),
+    }
+}

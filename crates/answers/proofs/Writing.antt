@@ -9,7 +9,7 @@ use native.Mathlib.Omega.{arith}
 use lib.ListN.{length, getD, set, take, length-append}
 use lib.Seq.{sets, length-sets, take-suc, length-take-le, ext-getD}
 use Rattle.laws.specs.Notions.{tabulate}
-use Rattle.laws.proofs.Lists.{length-tabulate, getD-tabulate}
+use Rattle.laws.proofs.Lists.{is-table}
 use Rattle.request.specs.Protocol.{bytesOf}
 use Rattle.answers.specs.Writing.{decimal, Written}
 use Rattle.answers.specs.Answers.{spaced}
@@ -73,4 +73,4 @@ regrouped e l c w k t n = simp append-assoc
 
 -- a list is the numbers that it has at each place
 pub listed : (n : ℕ) (xs : List ℕ) → length xs ≡ n → xs ≡ tabulate n (λ i. getD xs i 0)
-listed n xs h = ext-getD 0 xs (tabulate n (λ i. getD xs i 0)) (h ∙ sym (length-tabulate n (λ i. getD xs i 0))) λ i k. sym (getD-tabulate n (λ j. getD xs j 0) i (omega arith))
+listed n xs h = is-table n (λ i. getD xs i 0) xs h (λ i k. refl)

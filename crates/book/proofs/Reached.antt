@@ -15,10 +15,12 @@ use Rattle.book.specs.declared.State.{State}
 use Rattle.book.specs.declared.State.the-variants.{Empty, Draft, Open}
 use Rattle.book.specs.declared.Place.{Place}
 use Rattle.book.specs.declared.Book.{Book}
+use Rattle.book.specs.declared.Done.{Done}
 use Rattle.book.specs.Calls.{Sheet, Record, Call, SET, PUT, OPEN, CLOSE, DROP, isAccepted}
 use Rattle.book.specs.Checks.{outside, answer, complies}
 use Rattle.book.specs.Book.{empty, stored, numbers, withState, fresh, placeOf, heldIn, held, isOpen, sheetIf, sheetIn, bookReadings, withPlace, openIf, stateUnder, under, changed, step, bookAfter, answersOf, Reachable}
 use Rattle.book.specs.Sound.{tariffIn, HoldsAs, Holds, Sound}
+use Rattle.book.specs.Promises.{Does}
 use Rattle.book.proofs.Places.{never, inside, at-set, length-setPlace, at-map, fresh-place, record-valid}
 use Rattle.book.proofs.Found.{set-accepted, put-accepted, close-accepted, drop-accepted, open-accepted}
 
@@ -130,6 +132,10 @@ fresh-reachable = record { calls = []; left = refl }
 pub step-reachable : {b : Book} → Reachable b → (c : Call) → Reachable (step b c .book)
 step-reachable r c =
     record { calls = r .calls ++ (c ∷ []); left = ap (λ d. step d c .book) (r .left) ∙ sym (book-append fresh (r .calls) c) }
+
+-- and so does a call that was done as it promises
+pub does-reachable : {b : Book} {c : Call} {r : Done} → Reachable b → Does b c r → Reachable (r .book)
+does-reachable {b} {c} {r} h d = subst Reachable (sym (d .leaves)) (step-reachable h c)
 
 -- the tariff that a place holds: what is made of its numbers is what it has, and it is valid
 abbrev Tariffed : Place → Type 0

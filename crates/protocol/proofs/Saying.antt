@@ -13,7 +13,7 @@ use Rattle.book.specs.declared.Done.{Done}
 use Rattle.book.specs.Calls as calls
 use Rattle.book.specs.Book.{Reachable}
 use Rattle.book.specs.Promises.{answerOf, Does}
-use Rattle.book.proofs.Reached.{step-reachable}
+use Rattle.book.proofs.Reached.{does-reachable}
 use Rattle.queries.specs.declared.Told.{Told}
 use Rattle.lines.specs.Words.{withoutReturn}
 use Rattle.request.specs.declared.Word.{Word}
@@ -109,6 +109,6 @@ pub step-done : (b : Book) (c : calls.Call) (did : Done) (before : List ℕ) (at
 step-done b c did before at next after does r w =
     record {
       book = does .leaves;
-      reachable = subst Reachable (sym (does .leaves)) (step-reachable r c);
+      reachable = does-reachable r does;
       text = rw (← does .answers) w;
     }

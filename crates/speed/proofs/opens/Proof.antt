@@ -3,7 +3,7 @@
 use Prim.Native.Nat.{_-_, _≤_}
 use native.Mathlib.Omega.{arith}
 use Rattle.book.specs.Book.{Reachable}
-use Rattle.speed.proofs.Kept.{kept}
+use Rattle.book.proofs.Reached.{does-reachable}
 use borrow.Author.Needs.{needs}
 use Rattle.speed.proofs.opens.Statement.{statement}
 use Rattle.speed.proofs.opens.Tie as tie
@@ -48,7 +48,7 @@ loop-less : tie.Need-loop-less Inv-loop μ-loop
 loop-less c = search needs
 
 loop-again : tie.Need-loop-again Inv-loop μ-loop
-loop-again c = (omega arith, kept (kept (c .before .before .before .before .before .before .before .before .before .loop .inv .1) (c .before .before .before .before .before .«open» .ensures)) (c .before .before .before .close .ensures))
+loop-again c = (omega arith, does-reachable (does-reachable (c .before .before .before .before .before .before .before .before .before .loop .inv .1) (c .before .before .before .before .before .«open» .ensures)) (c .before .before .before .close .ensures))
 
 returns : tie.Need-returns Inv-loop μ-loop
 returns c = search needs

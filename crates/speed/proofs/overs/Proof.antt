@@ -3,7 +3,7 @@
 use Prim.Native.Nat.{_-_, _≤_}
 use native.Mathlib.Omega.{arith}
 use Rattle.book.specs.Book.{Reachable}
-use Rattle.speed.proofs.Kept.{kept}
+use Rattle.book.proofs.Reached.{does-reachable}
 use borrow.Author.Needs.{needs}
 use Rattle.speed.proofs.overs.Statement.{statement}
 use Rattle.speed.proofs.overs.Tie as tie
@@ -60,7 +60,7 @@ loop-less : tie.Need-loop-less Inv-loop μ-loop
 loop-less c = search needs
 
 loop-again : tie.Need-loop-again Inv-loop μ-loop
-loop-again c = (omega arith, kept (c .before .before .before .before .before .before .before .before .before .before .before .loop .inv .1) (c .before .before .before .before .before .before .before .«open» .ensures))
+loop-again c = (omega arith, does-reachable (c .before .before .before .before .before .before .before .before .before .before .before .loop .inv .1) (c .before .before .before .before .before .before .before .«open» .ensures))
 
 returns : tie.Need-returns Inv-loop μ-loop
 returns c = search needs

@@ -5,7 +5,7 @@ use Prim.Native.Nat.{_-_, _≤_}
 use native.Mathlib.Omega.{arith}
 use lib.ListN.{length, length-set}
 use Rattle.book.specs.Book.{Reachable}
-use Rattle.speed.proofs.Kept.{kept}
+use Rattle.book.proofs.Reached.{does-reachable}
 use borrow.Author.Needs.{needs}
 use Rattle.speed.proofs.sets.Statement.{statement}
 use Rattle.speed.proofs.sets.Tie as tie
@@ -83,7 +83,7 @@ loop-less : tie.Need-loop-less Inv-loop μ-loop
 loop-less c = search needs
 
 loop-again : tie.Need-loop-again Inv-loop μ-loop
-loop-again c = let lp = c .before .before .before .before .before .before .before .before .before .before .loop in (omega arith, simp length-set (lp .inv .1), kept (lp .inv .2) (c .before .before .set .ensures))
+loop-again c = let lp = c .before .before .before .before .before .before .before .before .before .before .loop in (omega arith, simp length-set (lp .inv .1), does-reachable (lp .inv .2) (c .before .before .set .ensures))
 
 fold-book-requires : tie.Need-fold-book-requires Inv-loop μ-loop
 fold-book-requires c κs = search needs

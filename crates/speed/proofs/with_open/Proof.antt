@@ -3,7 +3,7 @@
 use Prim.Native.Nat.{_-_, _≤_}
 use native.Mathlib.Omega.{arith}
 use Rattle.book.specs.Book.{Reachable}
-use Rattle.speed.proofs.Kept.{kept}
+use Rattle.book.proofs.Reached.{does-reachable}
 use borrow.Author.Needs.{needs}
 use Rattle.speed.proofs.with_open.Statement.{statement}
 use Rattle.speed.proofs.with_open.Tie as tie
@@ -36,7 +36,7 @@ add-open : tie.Need-add-open Inv-loop μ-loop
 add-open c = search needs
 
 open-requires : tie.Need-open-requires Inv-loop μ-loop
-open-requires c κs = kept (c .before .before .before .before .before .loop .inv .1) (c .before .put .ensures)
+open-requires c κs = does-reachable (c .before .before .before .before .before .loop .inv .1) (c .before .put .ensures)
 
 add-k : tie.Need-add-k Inv-loop μ-loop
 add-k c = search needs
@@ -45,7 +45,7 @@ loop-less : tie.Need-loop-less Inv-loop μ-loop
 loop-less c = search needs
 
 loop-again : tie.Need-loop-again Inv-loop μ-loop
-loop-again c = (omega arith, kept (kept (c .before .before .before .before .before .before .before .loop .inv .1) (c .before .before .before .put .ensures)) (c .before .«open» .ensures))
+loop-again c = (omega arith, does-reachable (does-reachable (c .before .before .before .before .before .before .before .loop .inv .1) (c .before .before .before .put .ensures)) (c .before .«open» .ensures))
 
 returns : tie.Need-returns Inv-loop μ-loop
 returns c = search needs

@@ -13,8 +13,7 @@ use Rattle.refusal.specs.declared.Check.the-variants.{Pass, Refuse}
 use Rattle.refusal.specs.Checks.{unless}
 use Rattle.benchmark.specs.Benchmark.{setCheck}
 use Rattle.tariff.specs.Tariff.{tariffOf, recordCheck}
-use Rattle.verdict.specs.Cells.{verdict}
-use Rattle.verdict.specs.Found.{cell}
+use Rattle.verdict.specs.Cells.{verdict, cell}
 use Rattle.book.specs.declared.State.{State}
 use Rattle.book.specs.declared.State.the-variants.{Empty, Draft, Open}
 use Rattle.book.specs.declared.Place.{Place}
@@ -25,7 +24,8 @@ use Rattle.book.specs.declared.Done.{Done}
 use Rattle.book.specs.Calls.{Sheet, Record, Call, SET, PUT, OPEN, CLOSE, DROP, Answer, accepted, opened, refused, over, isAccepted}
 use Rattle.book.specs.Checks.{figuresOf, outside, codeCheck, setAnswer, verdictAnswer}
 use Rattle.book.specs.Book.{beyond, placeOf, numbers, heldIn, isOpenState, sheetIn, withPlace, changed, after, step}
-use Rattle.book.specs.Promises.{answerOf, monthsIn, Does, settledIn, Settles, emptyCheck, openCheck, closedCheck, refusalOf}
+use Rattle.book.specs.Promises.{answerOf, monthsIn, Does}
+use Rattle.book.specs.Settling.{settledIn, Settles, emptyCheck, openCheck, closedCheck, refusalOf}
 use Rattle.book.proofs.Places.{never, inside}
 
 -- "Any call refused changes nothing", and the book after an accepted one

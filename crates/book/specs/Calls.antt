@@ -2,6 +2,7 @@
 -- Assumes nothing.
 use mathlib.Core.Bool.{Bool, true, false}
 use mathlib.Core.List.{List}
+use mathlib.Core.Option.{Option, none, some}
 use Prim.Native.Nat.{ℕ}
 use lib.IntN.{ℤ}
 use Rattle.calendar.specs.declared.Period.{Period}
@@ -11,6 +12,9 @@ use Rattle.verdict.specs.Cells.{Cell}
 pub record Sheet : Type 0 where
   pub fields : List ℕ
   pub period : Period
+
+abbrev pub sheetAt : List ℕ → Period → Sheet
+sheetAt fields period = record { fields = fields; period = period }
 
 abbrev pub Record : Type 0
 Record = List ℕ
@@ -26,12 +30,21 @@ pub data Call : Type 0 where
 -- the cell, the months and the excess
 pub data Answer : Type 0 where
   accepted : Answer
-  opened : ℕ → Answer
-  refused : ℕ → Answer
-  over : Cell → List ℕ → ℤ → Answer
+  opened : (cells : ℕ) → Answer
+  refused : (number : ℕ) → Answer
+  over : (first : Cell) (months : List ℕ) (excess : ℤ) → Answer
 
+-- "A refusal returns its number": the number of an answer that is a refusal, 11 for one over the cap
+abbrev pub refusalNumber : Answer → Option ℕ
+refusalNumber accepted = none
+refusalNumber (opened cells) = none
+refusalNumber (refused n) = some n
+refusalNumber (over c months e) = some 11
+
+abbrev pub noRefusal : Option ℕ → Bool
+noRefusal none = true
+noRefusal (some n) = false
+
+-- a call is accepted where its answer is no refusal
 abbrev pub isAccepted : Answer → Bool
-isAccepted accepted = true
-isAccepted (opened n) = true
-isAccepted (refused n) = false
-isAccepted (over c months e) = false
+isAccepted a = noRefusal (refusalNumber a)

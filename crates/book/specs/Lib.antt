@@ -3,3 +3,4 @@ pub mod Checks
 pub mod Book
 pub mod Sound
 pub mod Promises
+pub mod Settling

@@ -15,7 +15,7 @@ use Rattle.charge.proofs.Months.{month-tiers}
 use Rattle.cap.specs.declared.Terms.{Terms}
 use Rattle.cap.specs.Cap.{monthMost, worstMonth}
 use Rattle.cap.specs.Judged.{scan, corners}
-use Rattle.cap.specs.Decided.{monthCharged, monthCapped, worst-best}
+use Rattle.cap.specs.Deciding.{monthCharged, monthCapped, worst-best}
 
 -- below its start a tier charge is nothing
 pub nothing-below : (rs ss : List ℕ) (from end x : ℕ) → Rising from ss end → x ≤ from → tierCharge from rs ss x ≡ 0

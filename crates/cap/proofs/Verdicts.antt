@@ -16,7 +16,7 @@ use Rattle.cap.specs.declared.Terms.{Terms}
 use Rattle.cap.specs.declared.Corners.{Corners}
 use Rattle.cap.specs.declared.Judged.the-variants.{Within, Over}
 use Rattle.cap.specs.Cap.{charged, capped, excess, worstMonth, worstMonths}
-use Rattle.cap.specs.Decided.{monthCharged, monthCapped, fixedCharged, fixedCapped, charged-monthly, capped-monthly, exceeds-if, only-if, worst-months}
+use Rattle.cap.specs.Deciding.{monthCharged, monthCapped, fixedCharged, fixedCapped, charged-monthly, capped-monthly, exceeds-if, only-if, worst-months}
 use Rattle.cap.specs.Judged.{Cornered, Judges, scan, room}
 use Rattle.cap.proofs.Scan.{nothing-below, scan-is-worst}
 use Rattle.cap.proofs.Worst.{exceeds-at-worst}

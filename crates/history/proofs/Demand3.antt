@@ -20,7 +20,7 @@ use Rattle.tariff.specs.declared.Tariff.{Tariff}
 use Rattle.tariff.specs.Tariff.{tariffOf, recordCheck}
 use Rattle.cap.specs.declared.Terms.{Terms}
 use Rattle.cap.specs.Cap.{charged, capped, excess, Months, Exceeds, worstMonths}
-use Rattle.cap.specs.Decided.{worst-months, exceeds-if}
+use Rattle.cap.specs.Deciding.{worst-months, exceeds-if}
 use Rattle.cap.proofs.Worst.{excess-most, exceeds-at-worst}
 use Rattle.verdict.specs.Cells.{Cell, Offered, terms, cellCount, verdictAt, verdict, firstOver}
 use Rattle.verdict.proofs.Meaning.{none-exceeds, first-exceeds}

@@ -16,8 +16,8 @@ use Rattle.benchmark.specs.declared.Benchmarks.{Benchmarks}
 use Rattle.tariff.specs.declared.Tariff.{Tariff}
 use Rattle.tariff.specs.Tariff.{tariffOf, validTariff}
 use Rattle.verdict.specs.declared.Outcome.{Outcome}
-use Rattle.verdict.specs.Cells.{verdict}
-use Rattle.verdict.specs.Found.{cell, verdictOf}
+use Rattle.verdict.specs.Cells.{verdict, cell}
+use Rattle.verdict.specs.Found.{verdictOf}
 use Rattle.book.specs.declared.State.{State}
 use Rattle.book.specs.declared.State.the-variants.{Empty, Draft, Open}
 use Rattle.book.specs.declared.Place.{Place}
@@ -29,7 +29,8 @@ use Rattle.book.specs.Calls.{Call, OPEN, refused, over}
 use Rattle.book.specs.Checks.{figuresOf, codeCheck, verdictAnswer}
 use Rattle.book.specs.Book.{beyond, placeOf, numbers, sheetIn, withPlace, step, Reachable}
 use Rattle.book.specs.Sound.{tariffIn, Holds}
-use Rattle.book.specs.Promises.{Does, settledIn, emptyCheck, openCheck, refusalOf}
+use Rattle.book.specs.Promises.{Does}
+use Rattle.book.specs.Settling.{settledIn, emptyCheck, openCheck, refusalOf}
 use Rattle.book.proofs.Places.{never}
 use Rattle.book.proofs.InForce.{check-refused, figures-are}
 use Rattle.book.proofs.Reached.{reached, tariff-held}

@@ -9,7 +9,7 @@ use Rattle.calendar.specs.declared.Period.{Period}
 use Rattle.book.specs.declared.Book.{Book}
 use Rattle.book.specs.Calls as call
 use Rattle.book.specs.Book.{step}
-use Rattle.setting.specs.Setting.{sheetAt}
+use Rattle.book.specs.Calls.{sheetAt}
 use Rattle.queries.specs.declared.Told.{Told}
 use Rattle.queries.specs.Queries.{benchmarkOf, maximumOf, quoteOf}
 use Rattle.lines.specs.Words.{withoutReturn}

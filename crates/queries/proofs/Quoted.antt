@@ -17,15 +17,14 @@ use Rattle.tariff.specs.Tariff.{tariffOf, validTariff}
 use Rattle.charge.specs.Charge.{arrangement}
 use Rattle.cap.specs.declared.Terms.{Terms}
 use Rattle.cap.specs.Cap.{charged, capped}
-use Rattle.verdict.specs.Cells.{offered, terms}
-use Rattle.verdict.specs.Found.{cell}
+use Rattle.verdict.specs.Cells.{offered, terms, cell}
 use Rattle.book.specs.declared.State.{State}
 use Rattle.book.specs.declared.State.the-variants.{Empty, Draft, Open}
 use Rattle.book.specs.declared.Place.{Place}
 use Rattle.book.specs.declared.Book.{Book}
 use Rattle.book.specs.Checks.{figuresOf, outside, codeCheck}
 use Rattle.book.specs.Book.{beyond, placeOf, numbers, sheetIn, Reachable}
-use Rattle.book.specs.Promises.{emptyCheck}
+use Rattle.book.specs.Settling.{emptyCheck}
 use Rattle.book.specs.Sound.{tariffIn, Holds}
 use Rattle.book.proofs.Places.{never}
 use Rattle.book.proofs.Reached.{reached, tariff-held}

@@ -17,8 +17,7 @@ use Rattle.tariff.specs.declared.Tariff.{Tariff}
 use Rattle.tariff.specs.Tariff.{tariffOf}
 use Rattle.cap.specs.declared.Terms.{Terms}
 use Rattle.cap.specs.Cap.{maximum, charged, capped, monthMost}
-use Rattle.verdict.specs.Cells.{Cell, offered, terms}
-use Rattle.verdict.specs.Found.{cell}
+use Rattle.verdict.specs.Cells.{Cell, offered, terms, cell}
 use Rattle.book.specs.declared.Book.{Book}
 use Rattle.queries.specs.declared.Told.{Told}
 use Rattle.queries.specs.declared.Told.the-variants.{Refused, Figure, Figures}

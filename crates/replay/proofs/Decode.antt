@@ -10,11 +10,10 @@ use lib.Seq.{getD-drop, drop-drop, take-append-seam, drop-append-seam}
 use Rattle.calendar.specs.declared.Period.{Period}
 use Rattle.book.specs.declared.Book.{Book}
 use Rattle.book.specs.declared.Done.{Done}
-use Rattle.book.specs.Calls.{Call, SET, PUT, OPEN, CLOSE, DROP}
+use Rattle.book.specs.Calls.{sheetAt, Call, SET, PUT, OPEN, CLOSE, DROP}
 use Rattle.book.specs.Book.{step, Reachable}
 use Rattle.book.specs.Promises.{answerOf, Does}
 use Rattle.book.proofs.Reached.{step-reachable}
-use Rattle.setting.specs.Setting.{sheetAt}
 use Rattle.replay.specs.declared.Ran.{Ran}
 use Rattle.replay.specs.Encoded.{encodeOne, numberOf}
 use Rattle.replay.specs.Running.{RanAt}

@@ -1,21 +1,14 @@
--- SET's sheet as it is handed in, and a place under the figures of a sheet.
+-- A place under the figures of a sheet, as the code works them out.
 -- Assumes nothing.
-use mathlib.Core.List.{List}
-use mathlib.Core.Option.{some}
-use Prim.Native.Nat.{ℕ}
-use Rattle.calendar.specs.declared.Period.{Period}
 use Rattle.benchmark.specs.declared.Benchmarks.{Benchmarks}
 use Rattle.tariff.specs.Tariff.{tariffOf}
 use Rattle.verdict.specs.Cells.{firstOver}
 use Rattle.book.specs.declared.State.{State}
 use Rattle.book.specs.declared.State.the-variants.{Empty, Draft, Open}
 use Rattle.book.specs.declared.Place.{Place}
-use Rattle.book.specs.Calls.{Sheet, Record}
+use Rattle.book.specs.Calls.{Record}
 use Rattle.book.specs.Checks.{isNone}
 use Rattle.book.specs.Book.{numbers, withState, openIf}
-
-abbrev pub sheetAt : List ℕ → Period → Sheet
-sheetAt fields period = record { fields = fields; period = period }
 
 -- `under` of the book's definitions, with the sheet's figures worked out
 abbrev pub stateWith : Benchmarks → State → Record → State

@@ -13,7 +13,8 @@ use Rattle.tariff.specs.declared.Tariff.{Tariff}
 use Rattle.charge.specs.Tiers.{Rising, hundredths, ends}
 use Rattle.cap.specs.declared.Terms.{Terms}
 use Rattle.cap.specs.Cap.{charged, capped, excess, worstMonth, worstMonths, Exceeds}
-use Rattle.cap.specs.Decided.{monthCharged, monthCapped, exceeds?, exceeds-if, only-if, worst-months}
+use Rattle.cap.specs.Deciding.{monthCharged, monthCapped, exceeds-if, only-if, worst-months}
+use Rattle.cap.specs.Decided.{exceeds?}
 use Rattle.cap.specs.Judged.{scan, corners}
 use Rattle.cap.proofs.Scan.{scan-is-worst}
 use Rattle.cap.proofs.Worst.{exceeds-at-worst}

@@ -22,8 +22,8 @@ use Rattle.cap.specs.Decided.{exceeds?}
 use Rattle.cap.specs.Judged.{Fits, Judges}
 use Rattle.verdict.specs.declared.Found.the-variants as found
 use Rattle.verdict.specs.declared.Outcome.the-variants as outcome
-use Rattle.verdict.specs.Cells.{Cell, bit, offered, terms, cellAt, decided, exceedsAt, firstBelow, firstOver, cellCount, opens, over, verdictAt, verdict}
-use Rattle.verdict.specs.Found.{cell, Finds, verdictOf}
+use Rattle.verdict.specs.Cells.{Cell, bit, offered, terms, cellAt, decided, exceedsAt, firstBelow, firstOver, cellCount, opens, over, verdictAt, verdict, cell}
+use Rattle.verdict.specs.Found.{Finds, verdictOf}
 use Rattle.verdict.proofs.Meaning.{rank, cell-at-rank, yes-decided, no-decided, below-none, below-here, below-later}
 
 -- arrangement 0 or 1

@@ -23,6 +23,9 @@ pub record Cell : Type 0 where
   pub region : ℕ
   pub method : ℕ
 
+abbrev pub cell : ℕ → ℕ → Cell
+cell region method = record { region = region; method = method }
+
 -- bit i of a set
 unfoldable pub bit : ℕ → ℕ → Bool
 bit set i = eqb (set / 2 ^ i % 2) 1

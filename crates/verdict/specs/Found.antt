@@ -12,11 +12,7 @@ use Rattle.verdict.specs.declared.Found.{Found}
 use Rattle.verdict.specs.declared.Found.the-variants as found
 use Rattle.verdict.specs.declared.Outcome.{Outcome}
 use Rattle.verdict.specs.declared.Outcome.the-variants as outcome
-use Rattle.verdict.specs.Cells.{Cell, terms, firstOver, Verdict, opens, over}
-
--- the cell of a region and a method
-abbrev pub cell : ℕ → ℕ → Cell
-cell r m = record { region = r; method = m }
+use Rattle.verdict.specs.Cells.{cell, terms, firstOver, Verdict, opens, over}
 
 abbrev pub Finds : Benchmarks → Tariff → Found → Type 0
 Finds b x found.Nowhere = firstOver b x ≡ none

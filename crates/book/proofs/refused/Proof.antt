@@ -1,6 +1,6 @@
 -- `book::refused` meets its contract: a check that refuses has its number in the reply, and the book is handed back.
 use mathlib.Core.Path.{refl, sym, ap}
-use Rattle.book.specs.Promises.{refusalOf}
+use Rattle.book.specs.Settling.{refusalOf}
 use borrow.Author.Needs.{needs}
 use Rattle.book.proofs.refused.Statement.{statement}
 use Rattle.book.proofs.refused.Tie as tie

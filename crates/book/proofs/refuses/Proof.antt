@@ -1,6 +1,6 @@
 -- `book::refuses` meets its contract: a check that refuses has its number in the reply, and the place stays.
 use mathlib.Core.Path.{refl, sym, ap}
-use Rattle.book.specs.Promises.{refusalOf}
+use Rattle.book.specs.Settling.{refusalOf}
 use borrow.Author.Needs.{needs}
 use Rattle.book.proofs.refuses.Statement.{statement}
 use Rattle.book.proofs.refuses.Tie as tie

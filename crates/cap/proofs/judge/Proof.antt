@@ -7,7 +7,7 @@ use native.Mathlib.Omega.{arith}
 use Rattle.tariff.proofs.Validity.{valid-standing}
 use Rattle.charge.proofs.Months.{month-most}
 use Rattle.cap.specs.Cap.{worstMonth}
-use Rattle.cap.specs.Decided.{monthCharged, monthCapped}
+use Rattle.cap.specs.Deciding.{monthCharged, monthCapped}
 use Rattle.cap.specs.Judged.{Raised, room}
 use Rattle.cap.proofs.Sizes.{scale-most}
 use Rattle.cap.proofs.Verdicts.{corner-is-worst, nought-charged, over-there, within-there}

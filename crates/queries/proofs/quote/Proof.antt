@@ -11,7 +11,7 @@ use Rattle.laws.proofs.Every.{and-left, and-right}
 use Rattle.tariff.specs.Tariff.{validTariff}
 use Rattle.book.specs.Checks.{codeCheck}
 use Rattle.book.specs.Book.{beyond, placeOf}
-use Rattle.book.specs.Promises.{emptyCheck}
+use Rattle.book.specs.Settling.{emptyCheck}
 use Rattle.book.proofs.Steps.{code-passed, index-below}
 use Rattle.queries.specs.Queries.{refusalTold, cellAllowed, monthsAllowed}
 use Rattle.book.proofs.InForce.{check-passed, figures-lawful}

@@ -13,7 +13,8 @@ use Rattle.benchmark.proofs.Lawful.{lawful, passed-count}
 use Rattle.book.proofs.Reached.{reached}
 use Rattle.book.proofs.Steps.{hands-on, accepts, set-refused, set-passed}
 use Rattle.book.specs.Book.{under}
-use Rattle.setting.specs.Setting.{sheetAt, underFigures}
+use Rattle.book.specs.Calls.{sheetAt}
+use Rattle.setting.specs.Setting.{underFigures}
 use Rattle.setting.proofs.Under.{under-alike}
 use borrow.Author.Needs.{needs}
 use Rattle.setting.proofs.set.Statement.{statement}

@@ -7,8 +7,7 @@ use Prim.Native.Nat.{ℕ, _+_, _-_, _*_, _≤_}
 use native.Mathlib.Omega.{arith}
 use Rattle.cap.specs.Judged.{Cornered, Fits, Judges}
 use Rattle.cap.specs.declared.Terms.{Terms}
-use Rattle.verdict.specs.Cells.{terms, firstBelow}
-use Rattle.verdict.specs.Found.{cell}
+use Rattle.verdict.specs.Cells.{terms, firstBelow, cell}
 use Rattle.verdict.proofs.Walk.{terms-are, terms-fit, not-method, within-cell, passed, region-starts, region-ends, region-passed, walked, over-cell}
 use borrow.Author.Needs.{needs}
 use Rattle.verdict.proofs.first_over.Statement.{statement}

@@ -21,9 +21,10 @@ use Rattle.charge.specs.Tiers.{Rising, hundredths, ends}
 use Rattle.cap.specs.Cap.{maximum, charged, capped, excess}
 use Rattle.cap.specs.Judged.{scan}
 use Rattle.verdict.specs.Cells.{Cell, bit, offered, terms, cellCount, Verdict, opens, over, verdict}
-use Rattle.verdict.proofs.Scanned.{scannedBelow, scannedVerdict, verdict-scanned}
+use Rattle.verdict.proofs.Scanned.{scannedBelow, scannedVerdict}
 use Rattle.reference.specs.SheetS.{times, sheetS, periodS, flat, tiered, economySeven}
 use Rattle.reference.specs.Starred.{Starred, benchmarksS, firstOther, verdictOn, excessOf}
+use Rattle.reference.proofs.Scanning.{by-scan}
 
 -- the figures, worked out: each region's eight
 known : Benchmarks
@@ -40,10 +41,9 @@ unfolding benchmarksOf figures figure tabulate tabulateFrom benchmark wc pc oc n
 is-known = refl
 
 -- a verdict by the scan, on the known figures
-by-scan : (x : List ℕ) (v : Verdict) → length (hundredths (tariffOf x)) ≡ suc (length (ends (tariffOf x))) → Rising 0 (ends (tariffOf x)) 10000
+on-known : (x : List ℕ) (v : Verdict) → length (hundredths (tariffOf x)) ≡ suc (length (ends (tariffOf x))) → Rising 0 (ends (tariffOf x)) 10000
     → scannedVerdict known (tariffOf x) ≡ v → verdictOn x ≡ v
-by-scan x v fit rise e =
-    ap (λ (b : Benchmarks). verdict b (tariffOf x)) is-known ∙ verdict-scanned known (tariffOf x) fit rise ∙ e
+on-known x v = by-scan benchmarksS known is-known (tariffOf x) v
 
 -- the excess in region 0 with method 1, on the known figures
 by-figures : (x months : List ℕ) (d : ℤ) → excess (terms known (tariffOf x) firstOther) (tariffOf x) months ≡ d → excessOf x months ≡ d
@@ -93,14 +93,14 @@ starred =
       credit-nil = refl;
       credit-m = refl;
       economy-m = refl;
-      within = by-scan (flat 23000 18000) _ refl (lit< tt) (computed .within);
-      just-within = by-scan (flat 23960 18000) _ refl (lit< tt) (computed .just-within);
-      just-over = by-scan (flat 23961 18000) _ refl (lit< tt) (computed .just-over);
-      tiers-over = by-scan (tiered 20000 20000 100 15000) _ refl (lit< tt, lit< tt) (computed .tiers-over);
+      within = on-known (flat 23000 18000) _ refl (lit< tt) (computed .within);
+      just-within = on-known (flat 23960 18000) _ refl (lit< tt) (computed .just-within);
+      just-over = on-known (flat 23961 18000) _ refl (lit< tt) (computed .just-over);
+      tiers-over = on-known (tiered 20000 20000 100 15000) _ refl (lit< tt, lit< tt) (computed .tiers-over);
       one-month-below = subst (λ (d : ℤ). d <ℤ pos 0) (sym below) (ltZ-yes tt);
-      at-the-cap = by-scan (tiered 0 165509 5 0) _ refl (lit< tt, lit< tt) (computed .at-the-cap);
+      at-the-cap = on-known (tiered 0 165509 5 0) _ refl (lit< tt, lit< tt) (computed .at-the-cap);
       excess-nought = nought;
-      a-mill-over = by-scan (tiered 0 165510 5 0) _ refl (lit< tt, lit< tt) (computed .a-mill-over);
-      economy-over = by-scan (economySeven 23000 18000 12250) _ refl (lit< tt) (computed .economy-over);
+      a-mill-over = on-known (tiered 0 165510 5 0) _ refl (lit< tt, lit< tt) (computed .a-mill-over);
+      economy-over = on-known (economySeven 23000 18000 12250) _ refl (lit< tt) (computed .economy-over);
       records = (refl, refl, refl);
     }

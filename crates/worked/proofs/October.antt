@@ -21,7 +21,8 @@ use Rattle.charge.specs.Tiers.{Rising, hundredths, ends}
 use Rattle.cap.specs.Cap.{maximum, charged, capped, excess}
 use Rattle.cap.specs.Judged.{scan}
 use Rattle.verdict.specs.Cells.{Cell, bit, offered, terms, cellCount, Verdict, opens, over, verdict}
-use Rattle.verdict.proofs.Scanned.{scannedBelow, scannedVerdict, verdict-scanned}
+use Rattle.verdict.proofs.Scanned.{scannedBelow, scannedVerdict}
+use Rattle.reference.proofs.Scanning.{by-scan}
 use Rattle.reference.specs.SheetS.{times, sheetS, periodS, flat, tiered, economySeven}
 use Rattle.reference.specs.Starred.{Starred, benchmarksS, firstOther, verdictOn, excessOf}
 use Rattle.refusal.specs.declared.Check.the-variants.{Pass}
@@ -47,10 +48,9 @@ pub october-accepted : setCheck sheetS octoberPeriod ≡ Pass
 unfolding setCheck fieldsInRange fieldInRange rangeOf every termsFit fourFit paacFits ordered periodInRange figures figure tabulate tabulateFrom benchmark wc pc oc nc paenc headroom panc indexed round sheetS times periodDays monthBegins lengthAt monthLength leapYear hundredths ends Rising recordCheck validTariff validKind singleRegister economy7 multiRegister ratesWithin zeroFrom within rising
 october-accepted = refl
 
-by-scan : (x : List ℕ) (v : Verdict) → length (hundredths (tariffOf x)) ≡ suc (length (ends (tariffOf x))) → Rising 0 (ends (tariffOf x)) 10000
+on-known : (x : List ℕ) (v : Verdict) → length (hundredths (tariffOf x)) ≡ suc (length (ends (tariffOf x))) → Rising 0 (ends (tariffOf x)) 10000
     → scannedVerdict known (tariffOf x) ≡ v → verdict (benchmarksOf sheetS octoberPeriod) (tariffOf x) ≡ v
-by-scan x v fit rise e =
-    ap (λ (b : Benchmarks). verdict b (tariffOf x)) is-known ∙ verdict-scanned known (tariffOf x) fit rise ∙ e
+on-known x v = by-scan (benchmarksOf sheetS octoberPeriod) known is-known (tariffOf x) v
 
 low-computed : scannedVerdict known (tariffOf (flat 23000 18000)) ≡ opens 28
 unfolding scannedVerdict scannedBelow offered bit terms arrangement scan tierCharge weighted monthCharge charge maximum charged capped excess sum total ends cellCount ones onesIn known times
@@ -62,11 +62,11 @@ close-computed = refl
 
 pub october-low : verdict (benchmarksOf sheetS octoberPeriod) (tariffOf (flat 23000 18000)) ≡ opens 28
 unfolding hundredths ends Rising
-october-low = by-scan (flat 23000 18000) _ refl (lit< tt) low-computed
+october-low = on-known (flat 23000 18000) _ refl (lit< tt) low-computed
 
 pub october-close : verdict (benchmarksOf sheetS octoberPeriod) (tariffOf (flat 23960 18000)) ≡ over firstOther (0 ∷ []) (pos 28686000000)
 unfolding hundredths ends Rising
-october-close = by-scan (flat 23960 18000) _ refl (lit< tt) close-computed
+october-close = on-known (flat 23960 18000) _ refl (lit< tt) close-computed
 
 pub close-record : recordCheck (flat 23960 18000) ≡ Pass
 unfolding setCheck fieldsInRange fieldInRange rangeOf every termsFit fourFit paacFits ordered periodInRange figures figure tabulate tabulateFrom benchmark wc pc oc nc paenc headroom panc indexed round sheetS times periodDays monthBegins lengthAt monthLength leapYear hundredths ends Rising recordCheck validTariff validKind singleRegister economy7 multiRegister ratesWithin zeroFrom within rising

@@ -1,0 +1,2 @@
+pub mod SheetU
+pub mod Unlike

@@ -1,0 +1,50 @@
+-- What sheet U comes to, as one table about the definitions. The figures were worked out apart from them, by the second implementation.
+-- Assumes nothing.
+use mathlib.Core.Path.{_≡_}
+use mathlib.Core.Bool.{Bool, true, false}
+use mathlib.Core.List.{List, [], _∷_}
+use Prim.Native.Nat.{ℕ, _/_, _%_}
+use lib.Dec.{eqb}
+use lib.IntN.{pos}
+use Rattle.laws.specs.Notions.{every, tabulate}
+use Rattle.refusal.specs.declared.Check.{Check}
+use Rattle.refusal.specs.declared.Check.the-variants.{Pass, Refuse}
+use Rattle.calendar.specs.Calendar.{periodDays}
+use Rattle.benchmark.specs.Benchmark.{benchmark, benchmarksOf, setCheck}
+use Rattle.tariff.specs.Tariff.{tariffOf, recordCheck}
+use Rattle.verdict.specs.Cells.{cell, Verdict, opens, over, verdict}
+use Rattle.unlike.specs.SheetU.{sheetU, periodU, threeTiers, peakAt, threeRegisters, allInOne, lonePair}
+
+-- the eight figures of a region, by arrangement, method and level
+abbrev pub eightOf : ℕ → List ℕ
+eightOf region = tabulate 8 (λ j. benchmark sheetU region (j / 4) (j / 2 % 2) (j % 2))
+
+-- the verdict on a record
+abbrev pub verdictOn : List ℕ → Verdict
+verdictOn x = verdict (benchmarksOf sheetU periodU) (tariffOf x)
+
+-- refused with 5
+abbrev pub isFive : Check → Bool
+isFive Pass = false
+isFive (Refuse n) = eqb n 5
+
+pub record Unlike : Type 0 where
+  pub accepted : setCheck sheetU periodU ≡ Pass
+  pub days : periodDays periodU ≡ 60
+  -- the first region and the last
+  pub first-region : eightOf 0 ≡ 11420014 ∷ 68981521 ∷ 10886946 ∷ 67489095 ∷ 12780546 ∷ 77414326 ∷ 12223106 ∷ 75779657 ∷ []
+  pub last-region : eightOf 13 ≡ 11287321 ∷ 68583575 ∷ 10756465 ∷ 67097782 ∷ 13046024 ∷ 77945243 ∷ 12484160 ∷ 76301726 ∷ []
+  -- three tiers: over in region 9 and not in 4, most at the second step
+  pub tiers-over : verdictOn (threeTiers 27000) ≡ over (cell 9 0) (400 ∷ 400 ∷ []) (pos 54991800000)
+  pub tiers-within : verdictOn (threeTiers 26000) ≡ opens 2
+  -- Economy 7: over by Other and not by Standard Credit
+  pub economy-over : verdictOn (peakAt 16100) ≡ over (cell 0 1) (10000 ∷ 10000 ∷ []) (pos 4397766960000)
+  -- three registers: over by Other and not by Standard Credit
+  pub registers-over : verdictOn (threeRegisters 15000) ≡ over (cell 3 1) (10000 ∷ 10000 ∷ []) (pos 10562346840000)
+  pub registers-within : verdictOn (threeRegisters 14000) ≡ opens 4
+  -- a register without consumption costs nothing
+  pub all-in-one : verdictOn allInOne ≡ opens 2
+  -- each of these records is a tariff
+  pub records : (recordCheck (threeTiers 27000) ≡ Pass) × (recordCheck (peakAt 16100) ≡ Pass) × (recordCheck (threeRegisters 15000) ≡ Pass) × (recordCheck allInOne ≡ Pass)
+  -- one pair of benchmarks out of order is enough for refusal 5, whichever of the 56 it is
+  pub each-pair : every 14 (λ r. every 2 (λ a. every 2 (λ p. isFive (setCheck (lonePair r a p) periodU)))) ≡ true

@@ -1,2 +1,3 @@
 pub mod October
 pub mod Lists
+pub mod Refused

@@ -1,14 +1,13 @@
 -- The table of starred verdicts holds: the figures of the sheet by computation, the verdicts by the scan of the corners.
 -- Assumes nothing.
-use mathlib.Core.Path.{_≡_, refl, sym, _∙_, ap, subst}
+use mathlib.Core.Path.{_≡_, refl, _∙_, ap}
 use mathlib.Core.Bool.{Bool, true, false}
 use mathlib.Core.List.{List, [], _∷_, _++_}
-use Prim.Native.Nat.{ℕ, zero, suc, _<_}
+use Prim.Native.Nat.{ℕ, suc}
 use lib.Count.{ones, onesIn}
 use lib.Dec.{lit<}
-use lib.IntN.{ℤ, pos, negsuc}
+use lib.IntN.{ℤ, pos, _-ℤ_}
 use lib.ListN.{length}
-use lib.Signed.{_<ℤ_, ltZ-yes}
 use Rattle.laws.specs.Notions.{every, sum, total, tabulate, tabulateFrom}
 use Rattle.calendar.specs.Calendar.{periodDays, periodInRange, monthBegins, lengthAt, monthLength, leapYear}
 use Rattle.sheet.specs.Sheet.{rangeOf, fieldInRange, fieldsInRange, round, indexed, fourFit, paacFits, termsFit}
@@ -73,7 +72,7 @@ computed =
     }
 
 -- 300 kWh in one month, and 5 kWh in each
-below : excessOf (tiered 20000 20000 100 15000) (300 ∷ 0 ∷ 0 ∷ []) ≡ negsuc 3346469999999
+below : excessOf (tiered 20000 20000 100 15000) (300 ∷ 0 ∷ 0 ∷ []) ≡ pos 0 -ℤ pos 3346470000000
 unfolding terms arrangement tierCharge charge maximum charged capped excess sum total known times
 below = by-figures (tiered 20000 20000 100 15000) (300 ∷ 0 ∷ 0 ∷ []) _ refl
 
@@ -97,7 +96,7 @@ starred =
       just-within = on-known (flat 23960 18000) _ refl (lit< tt) (computed .just-within);
       just-over = on-known (flat 23961 18000) _ refl (lit< tt) (computed .just-over);
       tiers-over = on-known (tiered 20000 20000 100 15000) _ refl (lit< tt, lit< tt) (computed .tiers-over);
-      one-month-below = subst (λ (d : ℤ). d <ℤ pos 0) (sym below) (ltZ-yes tt);
+      one-month-below = below;
       at-the-cap = on-known (tiered 0 165509 5 0) _ refl (lit< tt, lit< tt) (computed .at-the-cap);
       excess-nought = nought;
       a-mill-over = on-known (tiered 0 165510 5 0) _ refl (lit< tt, lit< tt) (computed .a-mill-over);

@@ -5,8 +5,7 @@ use mathlib.Core.Bool.{Bool, true, false, _&&_}
 use mathlib.Core.List.{List, [], _∷_}
 use Prim.Native.Nat.{ℕ}
 use lib.Dec.{eqb}
-use lib.IntN.{ℤ, pos, negsuc}
-use lib.Signed.{_<ℤ_}
+use lib.IntN.{ℤ, pos, _-ℤ_}
 use Rattle.laws.specs.Notions.{every}
 use Rattle.refusal.specs.declared.Check.the-variants.{Pass}
 use Rattle.calendar.specs.Calendar.{periodDays}
@@ -49,9 +48,10 @@ pub record Starred : Type 0 where
   pub within : verdictOn (flat 23000 18000) ≡ opens 28
   pub just-within : verdictOn (flat 23960 18000) ≡ opens 28
   pub just-over : verdictOn (flat 23961 18000) ≡ over firstOther (0 ∷ 0 ∷ 0 ∷ []) (pos 133200000)
-  -- 20,000 to 100 kWh, then 15,000: over with 100 kWh in each month, and below the cap with the same 300 kWh in one month
+  -- 20,000 to 100 kWh, then 15,000: over with 100 kWh in each month, by 70,425 mills, and below the cap with the same 300 kWh in one
+  -- month, by 929,575 mills (each times 1,200 × m, which is 3,600,000)
   pub tiers-over : verdictOn (tiered 20000 20000 100 15000) ≡ over firstOther (100 ∷ 100 ∷ 100 ∷ []) (pos 253530000000)
-  pub one-month-below : excessOf (tiered 20000 20000 100 15000) (300 ∷ 0 ∷ 0 ∷ []) <ℤ pos 0
+  pub one-month-below : excessOf (tiered 20000 20000 100 15000) (300 ∷ 0 ∷ 0 ∷ []) ≡ pos 0 -ℤ pos 3346470000000
   -- 165,509 to 5 kWh, then 0: exactly at the cap with 5 kWh in each month, and one mill more is over
   pub at-the-cap : verdictOn (tiered 0 165509 5 0) ≡ opens 28
   pub excess-nought : excessOf (tiered 0 165509 5 0) (5 ∷ 5 ∷ 5 ∷ []) ≡ pos 0

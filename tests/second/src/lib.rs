@@ -6,12 +6,20 @@
 //! cell (offered region with offered payment method) and for every division of
 //! consumption between the months.
 
+pub mod bars;
 mod book;
 mod calendar;
+pub mod conversation;
+pub mod counts;
 pub mod desk;
+pub mod fuzz;
+pub mod program;
 pub mod random;
+pub mod runs;
 pub mod script;
 mod sheet;
+pub mod side_by_side;
+pub mod tally;
 mod tariff;
 
 pub use book::{Book, Maximum, NotOpened, Quote, Refusal, State, PLACES};

@@ -4,12 +4,19 @@
 //! where the cap lies, and goes for the edges: tariffs at the cap and a mill to either
 //! side, worst months that tie, sheets at the edge of each refusal.
 
-use std::collections::BTreeMap;
+mod edges;
+mod noise;
+mod orders;
+mod sheets;
+mod tariffs;
+
+pub use edges::all_periods;
 
 use crate::book::{Book, State};
 use crate::desk::LINE_LIMIT;
 use crate::random::Random;
 use crate::sheet::{field_range, FIELDS, REGIONS};
+use crate::tally::Tally;
 use crate::tariff::{MONTH_LIMIT, RECORD};
 use crate::{period_days, Breach, NotOpened};
 
@@ -18,12 +25,8 @@ const STANDING_LIMIT: u32 = 1_000_000;
 const RATE_LIMIT: u32 = 200_000;
 const ALL_REGIONS: u32 = (1 << REGIONS) - 1;
 
-/// A random script and what it was written to reach.
-pub struct Script {
-    pub text: Vec<u8>,
-    pub calls: usize,
-    pub tally: BTreeMap<String, u64>,
-}
+/// A part of a script is handed out when it has this many bytes.
+const PART: usize = 1 << 16;
 
 /// A cost sheet with its period.
 #[derive(Clone, Debug)]
@@ -74,10 +77,12 @@ enum Turn {
     Quote,
     Edge,
     Fill,
+    TwoFaults,
+    FieldEnd,
 }
 
 /// Turns of a random script, by weight.
-const TURNS: [(Turn, u64); 10] = [
+const TURNS: [(Turn, u64); 12] = [
     (Turn::Set, 34),
     (Turn::Put, 170),
     (Turn::Open, 190),
@@ -88,6 +93,8 @@ const TURNS: [(Turn, u64); 10] = [
     (Turn::Quote, 190),
     (Turn::Edge, 45),
     (Turn::Fill, 1),
+    (Turn::TwoFaults, 12),
+    (Turn::FieldEnd, 3),
 ];
 
 /// Turns of a speed script: one in a hundred is a sheet.
@@ -131,7 +138,9 @@ const FAR: [u32; 14] = [
     0xffff_ffff,
 ];
 
-struct Writer {
+/// Writes a script part by part, whole lines in each, and keeps count of what it was written
+/// to reach.
+pub struct Writer {
     random: Random,
     book: Book,
     /// A book with the same sheet, for trying tariffs out at code 1.
@@ -143,47 +152,59 @@ struct Writer {
     quirks: bool,
     /// Calls to be written.
     limit: usize,
+    calls: usize,
+    /// Calls at the start that are made without a sheet.
+    bare: usize,
     /// The field to be spoilt next; they take their turns.
     spoilt: usize,
     /// The indexed term to be brought to its limit next.
     term: usize,
-    script: Script,
+    /// The end of a field's range to be gone to next.
+    field_end: usize,
+    /// What has been written and not handed out.
+    text: Vec<u8>,
+    ended: bool,
+    tally: Tally,
 }
 
 /// A random list of `calls` calls, with some other lines between them.
-pub fn script(seed: u64, calls: usize) -> Script {
-    let mut writer = Writer::new(seed, calls, true);
-    // A while without a sheet; whatever SET is called now is refused.
-    let bare = (calls / 20).min(500);
-    while writer.script.calls < bare {
-        writer.noise();
-        match turn(&mut writer.random, &TURNS) {
-            Turn::Set => {
-                let mut dated = writer.good_sheet();
-                writer.spoil(&mut dated);
-                if writer.trial.clone().set_dated(&dated).is_err() {
-                    writer.set(&dated);
+pub fn script(seed: u64, calls: usize) -> Vec<u8> {
+    Writer::new(seed, calls).flatten().collect()
+}
+
+impl Iterator for Writer {
+    type Item = Vec<u8>;
+
+    fn next(&mut self) -> Option<Vec<u8>> {
+        while self.text.len() < PART && self.calls < self.limit {
+            self.noise();
+            match turn(&mut self.random, &TURNS) {
+                // A while without a sheet; whatever SET is called now is refused.
+                Turn::Set if self.calls < self.bare => {
+                    let mut dated = self.good_sheet();
+                    self.spoil(&mut dated);
+                    if self.trial.clone().set_dated(&dated).is_err() {
+                        self.set(&dated);
+                    }
                 }
+                turn => self.take(turn),
             }
-            turn => writer.take(turn),
         }
+        if self.calls == self.limit && !self.ended {
+            self.ended = true;
+            if self.random.one_in(2) {
+                self.text.pop();
+            }
+        }
+        (!self.text.is_empty()).then(|| std::mem::take(&mut self.text))
     }
-    while writer.script.calls < calls {
-        writer.noise();
-        let turn = turn(&mut writer.random, &TURNS);
-        writer.take(turn);
-    }
-    if writer.random.one_in(2) {
-        writer.script.text.pop();
-    }
-    writer.script
 }
 
 /// A script of exactly `lines` well-formed calls, as of a working day.
 pub fn speed_script(seed: u64, lines: usize) -> Vec<u8> {
-    let mut writer = Writer::new(seed, lines, false);
+    let mut writer = Writer::plain_lines(seed, lines);
     writer.set(&reference());
-    while writer.script.calls < lines {
+    while writer.calls < lines {
         match turn(&mut writer.random, &SPEED_TURNS) {
             Turn::Set => {
                 let mut dated = reference();
@@ -213,7 +234,7 @@ pub fn speed_script(seed: u64, lines: usize) -> Vec<u8> {
             turn => writer.take_plain(turn),
         }
     }
-    writer.script.text
+    writer.text
 }
 
 impl Book {
@@ -223,7 +244,15 @@ impl Book {
 }
 
 impl Writer {
-    fn new(seed: u64, limit: usize, quirks: bool) -> Writer {
+    /// A writer of a random list of `calls` calls, with some other lines between them.
+    pub fn new(seed: u64, calls: usize) -> Writer {
+        let mut writer = Writer::plain_lines(seed, calls);
+        writer.quirks = true;
+        writer.bare = (calls / 20).min(1_000);
+        writer
+    }
+
+    fn plain_lines(seed: u64, limit: usize) -> Writer {
         let mut trial = Book::new();
         trial.set_dated(&reference()).expect("the reference sheet");
         Writer {
@@ -233,26 +262,36 @@ impl Writer {
             sheet: reference(),
             records: [None; 32],
             breach: None,
-            quirks,
+            quirks: false,
             limit,
+            calls: 0,
+            bare: 0,
             term: 0,
             spoilt: (seed % FIELDS as u64) as usize * 31 % FIELDS,
-            script: Script {
-                text: Vec::new(),
-                calls: 0,
-                tally: BTreeMap::new(),
-            },
+            field_end: (seed % FIELDS as u64) as usize * 31 % FIELDS,
+            text: Vec::new(),
+            ended: false,
+            tally: Tally::default(),
         }
     }
 
+    pub fn calls(&self) -> usize {
+        self.calls
+    }
+
+    /// What was written, as far as the writer had it in mind.
+    pub fn tally(self) -> Tally {
+        self.tally
+    }
+
     fn note(&mut self, what: &str) {
-        *self.script.tally.entry(what.to_string()).or_insert(0) += 1;
+        self.tally.one(what);
     }
 
     // Lines.
 
     fn call(&mut self, word: &str, numbers: &[u32]) {
-        if self.script.calls == self.limit {
+        if self.calls == self.limit {
             return;
         }
         let mut line = String::with_capacity(16 + 8 * numbers.len());
@@ -281,7 +320,7 @@ impl Writer {
         if self.quirks && self.random.one_in(40) {
             line.push('\r');
         }
-        self.script.calls += 1;
+        self.calls += 1;
         self.line(line.as_bytes());
     }
 
@@ -292,13 +331,13 @@ impl Writer {
             line.push_str(&number.to_string());
         }
         assert!(line.len() <= LINE_LIMIT);
-        self.script.calls += 1;
+        self.calls += 1;
         self.line(line.as_bytes());
     }
 
     fn line(&mut self, line: &[u8]) {
-        self.script.text.extend_from_slice(line);
-        self.script.text.push(b'\n');
+        self.text.extend_from_slice(line);
+        self.text.push(b'\n');
     }
 
     fn set(&mut self, dated: &Dated) {
@@ -369,6 +408,8 @@ impl Writer {
             }
             Turn::Edge => self.edge(),
             Turn::Fill => self.fill(),
+            Turn::TwoFaults => self.two_faults(),
+            Turn::FieldEnd => self.end_of_a_field(),
             Turn::Benchmark | Turn::Maximum | Turn::Quote => {
                 if self.random.one_in(4) {
                     self.take_odd(turn);
@@ -437,7 +478,7 @@ impl Writer {
                 self.call("maximum", &[region, arrangement, method, total]);
             }
             _ => {
-                let way = self.random.below(12);
+                let way = self.random.below(13);
                 let code = match way {
                     0 => self.bad_code(),
                     1 => self.code_in(State::Empty, 1_000),
@@ -468,6 +509,7 @@ impl Writer {
                         let i = self.random.index(months.len());
                         months[i] = self.random.between(MONTH_LIMIT + 1, u32::MAX);
                     }
+                    11 => months[0] = MONTH_LIMIT + 1,
                     _ => {
                         let i = self.random.index(months.len());
                         months[i] = u32::MAX;
@@ -676,1009 +718,7 @@ impl Writer {
             })
             .collect()
     }
-
-    // Tariffs.
-
-    fn breach_of(&mut self, record: &[u32; RECORD]) -> Option<Breach> {
-        self.trial.put(1, record).expect("a tariff to be tried");
-        match self.trial.open(1) {
-            Ok(_) => {
-                self.trial.close(1).expect("a tariff just opened");
-                None
-            }
-            Err(NotOpened::OverCap(breach)) => Some(breach),
-            Err(NotOpened::Refused(refusal)) => panic!("refused {}", refusal.number()),
-        }
-    }
-
-    /// The highest standing charge, or the highest value of one rate, at which the tariff
-    /// is within the cap, and its place in the record; `None` if no value is both within
-    /// the cap and next to one that is not.
-    fn fit(&mut self, record: &[u32; RECORD]) -> Option<(usize, u32)> {
-        let place = if self.random.one_in(3) {
-            2
-        } else {
-            5 + self.random.index(record[1] as usize)
-        };
-        let mut record = *record;
-        let mut within = 0;
-        let mut over = if place == 2 {
-            STANDING_LIMIT
-        } else {
-            RATE_LIMIT
-        };
-        record[place] = over;
-        self.breach_of(&record)?;
-        record[place] = within;
-        if self.breach_of(&record).is_some() {
-            return None;
-        }
-        while over - within > 1 {
-            let middle = within + (over - within) / 2;
-            record[place] = middle;
-            if self.breach_of(&record).is_some() {
-                over = middle;
-            } else {
-                within = middle;
-            }
-        }
-        Some((place, within))
-    }
-
-    /// The standing charge and the rate that the tightest offered cell just allows.
-    fn allowed(&self, record: &[u32; RECORD]) -> (u32, u32) {
-        let arrangement = u32::from(record[0] != 1);
-        let m = self.sheet.fields[93 + arrangement as usize];
-        let (mut nil, mut rise) = (u32::MAX, u32::MAX);
-        for region in (0..14).filter(|region| record[3] >> region & 1 == 1) {
-            for method in (0..2).filter(|method| record[4] >> method & 1 == 1) {
-                let at = |level| {
-                    self.trial
-                        .benchmark(region, arrangement, method, level)
-                        .unwrap_or(0)
-                };
-                nil = nil.min(at(0));
-                rise = rise.min(at(1) - at(0));
-            }
-        }
-        let Dated { year, month, t, .. } = self.sheet;
-        let days = period_days(year, month, t).expect("a sheet in force has a period");
-        let standing = u64::from(nil) * u64::from(t) / (12 * u64::from(days));
-        (
-            standing.min(u64::from(STANDING_LIMIT)) as u32,
-            (rise / m).min(RATE_LIMIT),
-        )
-    }
-
-    fn offer(&mut self) -> (u32, u32) {
-        let regions = match self.random.below(6) {
-            0..=2 => ALL_REGIONS,
-            3 => 1 << self.region(),
-            _ => self.random.between(1, ALL_REGIONS),
-        };
-        (regions, self.random.pick(&[1, 2, 3, 3, 3]))
-    }
-
-    /// Rising steps, some of them side by side or at the ends of their range.
-    fn steps(&mut self, count: usize) -> [u32; 4] {
-        loop {
-            let mut steps: Vec<u32> = Vec::new();
-            for _ in 0..count {
-                let step = match self.random.below(8) {
-                    0 => 1,
-                    1 => 9_999,
-                    2 => steps.last().map_or(2, |&step| (step + 1).min(9_999)),
-                    3..=5 => self.random.between(1, 400),
-                    _ => self.random.between(1, 9_999),
-                };
-                steps.push(step);
-            }
-            steps.sort_unstable();
-            steps.dedup();
-            if steps.len() == count {
-                let mut places = [0; 4];
-                places[..count].copy_from_slice(&steps);
-                return places;
-            }
-        }
-    }
-
-    fn percentages(&mut self, n: usize) -> [u32; 4] {
-        let mut places = [0; 4];
-        let mut left = 100;
-        for place in places.iter_mut().take(n - 1) {
-            *place = match self.random.below(5) {
-                0 => 0,
-                1 => left,
-                _ => self.random.between(0, left),
-            };
-            left -= *place;
-        }
-        places[n - 1] = left;
-        let other = self.random.index(n);
-        places.swap(n - 1, other);
-        places
-    }
-
-    /// A tariff of any kind, its rates and standing charge of any size.
-    fn shape(&mut self) -> [u32; RECORD] {
-        let kind = self.random.pick(&[1, 1, 1, 2, 3]);
-        let n = match kind {
-            1 => self.random.between(1, 4),
-            2 => 2,
-            _ => self.random.between(2, 4),
-        };
-        let (regions, methods) = self.offer();
-        let mut record = [kind, n, 0, regions, methods, 0, 0, 0, 0, 0, 0, 0, 0];
-        let steps = match kind {
-            1 => self.steps(n as usize - 1),
-            2 => [0; 4],
-            _ => self.percentages(n as usize),
-        };
-        record[9..].copy_from_slice(&steps);
-
-        let (standing, rate) = self.allowed(&record);
-        let scale = |random: &mut Random, value: u32, limit: u32| -> u32 {
-            let percent = random.between(0, 115);
-            (u64::from(value) * u64::from(percent) / 100).min(u64::from(limit)) as u32
-        };
-        match self.random.below(10) {
-            0 => {
-                record[2] = self.random.between(0, STANDING_LIMIT);
-                for rate in &mut record[5..5 + n as usize] {
-                    *rate = self.random.between(0, RATE_LIMIT);
-                }
-            }
-            1 => {
-                record[2] = self
-                    .random
-                    .pick(&[0, 1, STANDING_LIMIT - 1, STANDING_LIMIT]);
-                for rate in &mut record[5..5 + n as usize] {
-                    *rate = self.random.pick(&[0, 0, 1, RATE_LIMIT - 1, RATE_LIMIT]);
-                }
-            }
-            2..=4 => {
-                // The first kWh dear and the rest cheap, or the other way round.
-                record[2] = scale(&mut self.random, standing, STANDING_LIMIT);
-                let (mut near, mut far) = (rate, rate);
-                for (i, place) in record[5..5 + n as usize].iter_mut().enumerate() {
-                    near = (near + self.random.between(0, rate / 4)).min(RATE_LIMIT);
-                    far = scale(&mut self.random, far, RATE_LIMIT);
-                    *place = if i % 2 == 0 { near } else { far };
-                }
-                if self.random.one_in(2) {
-                    record[5..5 + n as usize].reverse();
-                }
-            }
-            _ => {
-                record[2] = scale(&mut self.random, standing, STANDING_LIMIT);
-                for place in &mut record[5..5 + n as usize] {
-                    *place = scale(&mut self.random, rate, RATE_LIMIT);
-                }
-            }
-        }
-        record
-    }
-
-    /// A tariff record that PUT takes.
-    fn any_record(&mut self) -> [u32; RECORD] {
-        if self.book.t().is_none() {
-            return self.shape();
-        }
-        if self.random.one_in(5) {
-            if let Some(record) = self.tie() {
-                self.note("tariffs with worst months that tie");
-                return record;
-            }
-        }
-        let mut record = self.shape();
-        if self.random.one_in(3) {
-            return record;
-        }
-        if let Some((place, most)) = self.fit(&record) {
-            record[place] = match self.random.below(4) {
-                0 => {
-                    self.note("tariffs one mill under the cap");
-                    most.saturating_sub(1)
-                }
-                1 => {
-                    self.note("tariffs one mill over the cap");
-                    most + 1
-                }
-                _ => {
-                    self.note("tariffs just within the cap");
-                    most
-                }
-            };
-        }
-        record
-    }
-
-    /// A tariff of a working day: near the cap, mostly within it.
-    fn common_record(&mut self) -> [u32; RECORD] {
-        let kind = self.random.pick(&[1, 1, 1, 2, 3]);
-        let n = match kind {
-            1 => self.random.pick(&[1, 1, 2, 2, 3, 4]),
-            2 => 2,
-            _ => self.random.between(2, 4),
-        };
-        let regions = if self.random.one_in(3) {
-            self.random.between(1, ALL_REGIONS)
-        } else {
-            ALL_REGIONS
-        };
-        let methods = self.random.pick(&[1, 2, 3, 3, 3]);
-        let standing = self.random.between(18_000, 24_000);
-        let mut record = [kind, n, standing, regions, methods, 0, 0, 0, 0, 0, 0, 0, 0];
-        for place in &mut record[5..5 + n as usize] {
-            *place = self.random.between(12_000, 16_000);
-        }
-        if self.random.one_in(6) {
-            record[5] = self.random.between(16_000, 24_000);
-        }
-        let steps = match kind {
-            1 => {
-                let mut steps = [0; 4];
-                let mut step = 0;
-                for place in steps.iter_mut().take(n as usize - 1) {
-                    step += self.random.between(20, 300);
-                    *place = step;
-                }
-                steps
-            }
-            2 => [0; 4],
-            _ => self.percentages(n as usize),
-        };
-        record[9..].copy_from_slice(&steps);
-        record
-    }
-
-    /// A tariff with two worst consumptions in some cell, only the lower of which is the
-    /// answer. With rise / m = p / q in lowest terms, a stretch of q x k kWh that costs
-    /// p x k mills leaves the excess where it was.
-    fn tie(&mut self) -> Option<[u32; RECORD]> {
-        let region = self.region();
-        let method = self.random.between(0, 1);
-        let arrangement = u32::from(self.random.one_in(3));
-        let m = self.sheet.fields[93 + arrangement as usize];
-        let at = |level| {
-            self.trial
-                .benchmark(region, arrangement, method, level)
-                .ok()
-        };
-        let rise = at(1)? - at(0)?;
-        let common = gcd(rise, m);
-        let (p, q) = (u64::from(rise / common), m / common);
-        let rate = rise / m;
-        let mut record = [1, 0, 0, 1 << region, 1 << method, 0, 0, 0, 0, 0, 0, 0, 0];
-        if arrangement == 1 {
-            // The weighted rate is the cap's own: flat from 0 to 10,000.
-            if !(100 * p).is_multiple_of(u64::from(q)) {
-                return None;
-            }
-            let weighted = 100 * p / u64::from(q);
-            (record[0], record[1]) = (3, 2);
-            if self.random.one_in(2) {
-                let peak = (0..100u64).find(|peak| {
-                    weighted
-                        .checked_sub(58 * peak)
-                        .is_some_and(|left| left % 42 == 0)
-                })?;
-                record[0] = 2;
-                record[5] = peak as u32;
-                record[6] = u32::try_from((weighted - 58 * peak) / 42).ok()?;
-            } else {
-                record[5] = (weighted % 99) as u32;
-                record[6] = u32::try_from(weighted / 99).ok()?;
-                (record[9], record[10]) = (1, 99);
-            }
-        } else {
-            if q > 4_000 || rate > RATE_LIMIT - 20_000 {
-                return None;
-            }
-            let span = q * self
-                .random
-                .between(1, (9_000 / q).clamp(1, 40))
-                .max(3 / q + 1);
-            let mills = p * u64::from(span / q);
-            // A dip over all of the stretch but its last kWh, which brings it back.
-            let dip = (mills / u64::from(span)) as u32;
-            let dip = dip.saturating_sub(self.random.between(0, 3));
-            let back = mills - u64::from(dip) * u64::from(span - 1);
-            if back > u64::from(RATE_LIMIT) {
-                return None;
-            }
-            let back = back as u32;
-            let start = self.random.between(1, 9_998 - span);
-            let up = rate + self.random.between(1, 20_000);
-            let down = self.random.between(0, rate);
-            let (rates, steps) = match self.random.below(3) {
-                // At the start and at the end of the stretch.
-                0 => (
-                    vec![up, dip, back, down],
-                    vec![start, start + span - 1, start + span],
-                ),
-                // At 0 and at the end of the stretch.
-                1 => (vec![dip, back, down], vec![span - 1, span]),
-                // At the start of the stretch and at 10,000.
-                _ => (
-                    vec![up, dip, back],
-                    vec![MONTH_LIMIT - span, MONTH_LIMIT - 1],
-                ),
-            };
-            record[1] = rates.len() as u32;
-            record[5..5 + rates.len()].copy_from_slice(&rates);
-            record[9..9 + steps.len()].copy_from_slice(&steps);
-        }
-        crate::Tariff::new(&record)?;
-        // Over the cap by one standing charge step more than allowed, so that it shows.
-        let (standing, _) = self.allowed(&record);
-        record[2] = match self.random.below(4) {
-            0 => standing,
-            1 => STANDING_LIMIT,
-            _ => (standing + 1).min(STANDING_LIMIT),
-        };
-        Some(record)
-    }
-
-    /// A record that is no tariff.
-    fn bad_record(&mut self) -> Vec<u32> {
-        let mut record = self.shape().to_vec();
-        let n = record[1] as usize;
-        let way = match self.random.below(19) {
-            0 => {
-                record.pop();
-                "record: 12 numbers"
-            }
-            1 => {
-                record.push(0);
-                "record: 14 numbers"
-            }
-            2 => {
-                let count = self.random.pick(&[0, 1, 5, 9, 26, 95, 500]);
-                record.resize(count, 0);
-                "record: another length"
-            }
-            3 => {
-                record[0] = self.random.pick(&[0, 4, 5, 257, 65_537, u32::MAX]);
-                "record: kind"
-            }
-            4 => {
-                record[1] = match record[0] {
-                    1 => self.random.pick(&[0, 5, 6, 8, 9, 257, u32::MAX]),
-                    2 => self.random.pick(&[0, 1, 3, 4, 5, u32::MAX]),
-                    _ => self.random.pick(&[0, 1, 5, 6, 258, u32::MAX]),
-                };
-                "record: n"
-            }
-            5 => {
-                record[2] = self
-                    .random
-                    .pick(&[STANDING_LIMIT + 1, 1 << 31, 1 << 24, u32::MAX]);
-                "record: standing charge"
-            }
-            6 => {
-                record[3] = 0;
-                "record: no region"
-            }
-            7 => {
-                record[3] |= 1 << self.random.between(14, 31);
-                "record: region past 13"
-            }
-            8 => {
-                record[4] = 0;
-                "record: no method"
-            }
-            9 => {
-                record[4] |= 1 << self.random.between(2, 31);
-                "record: method past 1"
-            }
-            10 => {
-                let place = 5 + self.random.index(n);
-                record[place] = self.random.pick(&[RATE_LIMIT + 1, 1 << 31, u32::MAX]);
-                "record: rate"
-            }
-            11 => {
-                record = self.shape_where(|r| r[1] < 4).to_vec();
-                let place = 8 - self.random.index(4 - record[1] as usize);
-                record[place] = self.random.pick(&[1, 200_000, u32::MAX]);
-                "record: rate past n"
-            }
-            12 => {
-                record = self.shape_where(|r| r[0] == 1).to_vec();
-                let place = self.random.between(8 + record[1], 12) as usize;
-                record[place] = self.random.pick(&[1, 9_999, 10_000, u32::MAX]);
-                "record: step past n"
-            }
-            13 => {
-                record = self.shape_where(|r| r[0] == 2).to_vec();
-                if self.random.one_in(2) {
-                    (record[9], record[10]) = (58, 42);
-                } else {
-                    let place = self.random.between(9, 12) as usize;
-                    record[place] = self.random.pick(&[1, 100, u32::MAX]);
-                }
-                "record: Economy 7 with a step"
-            }
-            14 => {
-                record = self.shape_where(|r| r[0] == 1 && r[1] > 2).to_vec();
-                if self.random.one_in(2) {
-                    record[10] = record[9];
-                } else {
-                    record.swap(9, 10);
-                }
-                "record: steps not rising"
-            }
-            15 => {
-                record = self.shape_where(|r| r[0] == 1 && r[1] > 1).to_vec();
-                if self.random.one_in(2) {
-                    record[9] = 0;
-                } else {
-                    let last = 7 + record[1] as usize;
-                    record[last] = self.random.pick(&[10_000, 10_001, u32::MAX]);
-                }
-                "record: step outside 1 to 9,999"
-            }
-            16 => {
-                record = self.shape_where(|r| r[0] == 3).to_vec();
-                let places: Vec<usize> = (9..9 + record[1] as usize).collect();
-                let place = self.random.pick(&places);
-                if self.random.one_in(2) && record[place] > 0 {
-                    record[place] -= 1;
-                    "record: percentages of 99"
-                } else {
-                    record[place] += 1;
-                    "record: percentages of 101"
-                }
-            }
-            17 => {
-                record = self.shape_where(|r| r[0] == 3).to_vec();
-                // 100, if sums went round at 2^32 or at 2^8.
-                (record[9], record[10]) =
-                    self.random
-                        .pick(&[(u32::MAX, 101), (200, 156), (0x8000_0032, 0x8000_0032)]);
-                record[11..].fill(0);
-                "record: percentage above 100"
-            }
-            _ => {
-                record = self.shape_where(|r| r[0] == 3 && r[1] < 4).to_vec();
-                let place = 9 + self.random.between(record[1], 3) as usize;
-                let used = self.random.index(record[1] as usize);
-                if self.random.one_in(2) && record[9 + used] > 0 {
-                    // The sum over all four places stays 100.
-                    record[9 + used] -= 1;
-                    record[place] = 1;
-                } else {
-                    record[place] = self.random.pick(&[1, 100, u32::MAX]);
-                }
-                "record: percentage past n"
-            }
-        };
-        if self.trial.put(1, &record).is_err() {
-            self.note(way);
-        }
-        record
-    }
-
-    fn shape_where(&mut self, wanted: fn(&[u32; RECORD]) -> bool) -> [u32; RECORD] {
-        loop {
-            let record = self.shape();
-            if wanted(&record) {
-                return record;
-            }
-        }
-    }
-
-    // Sheets.
-
-    fn period(&mut self, dated: &mut Dated) {
-        dated.year = match self.random.below(4) {
-            0 => self
-                .random
-                .pick(&[2018, 2019, 2020, 2023, 2024, 2028, 2096, 2098, 2099]),
-            _ => self.random.between(2018, 2099),
-        };
-        dated.month = self.random.between(1, 12);
-        dated.t = match self.random.below(3) {
-            0 => self.random.pick(&[1, 3, 6, 12]),
-            _ => self.random.between(1, 12),
-        };
-    }
-
-    /// Small changes to some fields of a sheet, all kept within their ranges.
-    fn shift(&mut self, dated: &mut Dated, mild: bool) {
-        let count = 1 + self.random.index(if mild { 4 } else { 8 });
-        for _ in 0..count {
-            let field = match self.random.below(3) {
-                0 => self.random.between(29, 35) as usize,
-                1 => self.random.between(36, 92) as usize,
-                _ => self.random.index(FIELDS),
-            };
-            let (lowest, highest) = field_range(field);
-            let value = dated.fields[field];
-            let changed = match self.random.below(if mild { 4 } else { 7 }) {
-                0 => value.saturating_sub(1),
-                1 => value + 1,
-                2 => value - (u64::from(value) * self.random.below(40) / 1_000) as u32,
-                3 => value + (u64::from(value) * self.random.below(40) / 1_000) as u32,
-                4 => self.random.pick(&[lowest, highest]),
-                5 => self.random.between(lowest, highest),
-                _ => self.random.any_size(highest),
-            };
-            dated.fields[field] = changed.clamp(lowest, highest);
-        }
-    }
-
-    /// A sheet that SET takes, most of the time.
-    fn good_sheet(&mut self) -> Dated {
-        let mut dated = reference();
-        match self.random.below(20) {
-            0 => return dated,
-            1..=5 => {
-                let mild = self.random.one_in(2);
-                self.shift(&mut dated, mild);
-                if self.random.one_in(2) {
-                    self.period(&mut dated);
-                }
-                if self.random.one_in(2) {
-                    self.spread(&mut dated);
-                }
-            }
-            6..=10 => {
-                dated = self.sheet.clone();
-                self.shift(&mut dated, true);
-                if self.random.one_in(6) {
-                    self.period(&mut dated);
-                }
-            }
-            11..=13 => self.plain(&mut dated),
-            14..=15 => self.wide(&mut dated),
-            16 => self.extreme(&mut dated),
-            17..=18 => self.brink_of_term(&mut dated),
-            _ => self.brink_of_fall(&mut dated),
-        }
-        dated
-    }
-
-    /// Network costs that differ by region, one region the tightest.
-    fn spread(&mut self, dated: &mut Dated) {
-        let tightest = self.region() as usize;
-        for region in 0..REGIONS {
-            for (four, base) in [2_000_000, 12_000_000, 2_000_000, 12_000_000]
-                .into_iter()
-                .enumerate()
-            {
-                let more = if region == tightest {
-                    0
-                } else {
-                    self.random.between(0, 2_000_000)
-                };
-                dated.fields[37 + 4 * region + four] = base + more;
-            }
-        }
-        if self.random.one_in(2) {
-            dated.fields.swap(18, 19);
-            dated.fields.swap(20, 21);
-        }
-    }
-
-    /// A sheet whose benchmarks are its network costs, with a whole rate and a whole
-    /// standing charge at the cap.
-    fn plain(&mut self, dated: &mut Dated) {
-        self.period(dated);
-        let days = period_days(dated.year, dated.month, dated.t).expect("a good period");
-        dated.fields[..22].fill(0);
-        dated.fields[22..36].fill(1);
-        dated.fields[36] = 0;
-        for arrangement in 0..2 {
-            let m = match self.random.below(3) {
-                0 => self.random.pick(&[1, 100, 1_000, 3_000, 20_000]),
-                _ => self.random.between(1, 20_000),
-            };
-            dated.fields[93 + arrangement] = m;
-            let standing = self.random.between(0, MONEY / 3 / (12 * days));
-            let rate = self.random.between(0, (MONEY / 2 / m).min(150_000));
-            let uneven = self.random.one_in(2);
-            for region in 0..REGIONS {
-                let (mut standing, mut rate) = (standing, rate);
-                if uneven {
-                    standing += self.random.between(0, 2);
-                    rate += self.random.between(0, 2);
-                }
-                let nil = 12 * days * standing;
-                dated.fields[37 + 4 * region + 2 * arrangement] = nil;
-                dated.fields[37 + 4 * region + 2 * arrangement + 1] = nil + m * rate;
-            }
-        }
-        // The same for a method 0 a little above, or below, method 1.
-        if self.random.one_in(2) {
-            dated.fields[18 + self.random.index(2)] = self.random.between(0, 20_000);
-        }
-    }
-
-    /// Fields of any size.
-    fn wide(&mut self, dated: &mut Dated) {
-        self.period(dated);
-        for index in 0..7 {
-            let initial = self.random.any_size(1_000_000_000).max(1);
-            let percent = self.random.below(130);
-            let current = (u64::from(initial) * percent / 100).min(1_000_000_000);
-            dated.fields[22 + index] = initial;
-            dated.fields[29 + index] = current as u32;
-        }
-        for pair in (0..16).step_by(2).chain((37..93).step_by(2)) {
-            let high = self.random.any_size(70_000_000);
-            dated.fields[pair + 1] = high;
-            dated.fields[pair] = self.random.between(0, high);
-        }
-        // The index of each four applies to its own level only.
-        dated.fields[33] = dated.fields[33].min(dated.fields[26]);
-        for field in 16..20 {
-            dated.fields[field] = self.random.any_size(1_000_000);
-        }
-        for field in [20, 21, 36] {
-            dated.fields[field] = self.random.any_size(70_000_000);
-        }
-        for field in [93, 94] {
-            dated.fields[field] = self.random.any_size(20_000).max(1);
-        }
-    }
-
-    /// Fields at the ends of their ranges.
-    fn extreme(&mut self, dated: &mut Dated) {
-        self.period(dated);
-        let flat = self.random.one_in(2);
-        for (field, value) in dated.fields.iter_mut().enumerate() {
-            let (lowest, highest) = field_range(field);
-            *value = match field {
-                // The levels of a four: nil, then m.
-                0..=15 | 37..=92 => {
-                    let nil = if field < 16 {
-                        field % 2 == 0
-                    } else {
-                        field % 2 == 1
-                    };
-                    if nil && !flat {
-                        lowest
-                    } else {
-                        highest
-                    }
-                }
-                22..=35 => highest,
-                _ => self.random.pick(&[lowest, highest]),
-            };
-        }
-        match self.random.below(4) {
-            0 => dated.fields[22..36].fill(1),
-            1 => dated.fields[29..36].fill(0),
-            2 => {
-                for value in &mut dated.fields[..16] {
-                    *value = 0;
-                }
-                dated.fields[36..93].fill(0);
-            }
-            _ => {}
-        }
-        for _ in 0..self.random.index(4) {
-            let field = self.random.index(FIELDS);
-            let (lowest, highest) = field_range(field);
-            dated.fields[field] = self
-                .random
-                .pick(&[lowest, lowest + 1, highest - 1, highest]);
-        }
-    }
-
-    /// A sheet with an indexed term next to 100,000,000.
-    fn brink_of_term(&mut self, dated: &mut Dated) {
-        if self.random.one_in(2) {
-            self.period(dated);
-        }
-        self.term = (self.term + 1) % 18;
-        let (baseline, index) = match self.term {
-            term @ 0..=3 => (term, 0),
-            term @ 4..=7 => (term, 1),
-            term @ 8..=11 => (term, term - 5),
-            term @ 12..=15 => (term, 2),
-            term => (term + 4, 2),
-        };
-        // 100,000,000 x (d + up) / d, with the half at d = 200,000,000 x up.
-        let up = self.random.between(1, 4);
-        let half = 200_000_000 * up;
-        let d = match self.random.below(5) {
-            0 => half - 1,
-            1 => half,
-            2 => half + 1,
-            3 => half + 2,
-            _ => self.random.between(half - 1_000_000, half + 1_000_000),
-        };
-        dated.fields[22 + index] = d;
-        dated.fields[29 + index] = d + up;
-        dated.fields[baseline] = MONEY;
-        if baseline < 16 && baseline % 2 == 0 && !self.random.one_in(3) {
-            // The same at m, so that the benchmark does not fall.
-            dated.fields[baseline + 1] = MONEY;
-            if (8..12).contains(&baseline) {
-                dated.fields[22 + index + 1] = d;
-                dated.fields[29 + index + 1] = d + up;
-            }
-        }
-        self.note("sheets with a term next to 100,000,000");
-    }
-
-    /// A sheet with a benchmark at m next to its benchmark at nil.
-    fn brink_of_fall(&mut self, dated: &mut Dated) {
-        if self.random.one_in(2) {
-            self.period(dated);
-        }
-        // Other costs about alike at both levels, network costs high at nil in one region.
-        for pair in (0..16).step_by(2) {
-            let value = dated.fields[pair + 1];
-            let less = self.random.between(0, value / 20);
-            dated.fields[pair] = value - less;
-            if self.random.one_in(3) {
-                dated.fields.swap(pair, pair + 1);
-            }
-        }
-        for field in 16..20 {
-            if self.random.one_in(2) {
-                dated.fields[field] = self.random.any_size(1_000_000);
-            }
-        }
-        for pair in (37..93).step_by(2) {
-            dated.fields[pair + 1] = MONEY;
-        }
-        let region = self.region() as usize;
-        let field = 38 + 4 * region + 2 * self.random.index(2);
-        dated.fields[field - 1] = self.random.between(10_000_000, 60_000_000);
-        let mut book = Book::new();
-        if book.set_dated(dated).is_err() {
-            return;
-        }
-        let (mut falls, mut holds) = (0, MONEY);
-        dated.fields[field] = falls;
-        if book.set_dated(dated).is_ok() {
-            return;
-        }
-        while holds - falls > 1 {
-            let middle = falls + (holds - falls) / 2;
-            dated.fields[field] = middle;
-            if book.set_dated(dated).is_ok() {
-                holds = middle;
-            } else {
-                falls = middle;
-            }
-        }
-        dated.fields[field] = self.random.pick(&[falls, holds, holds, holds + 1]);
-        self.note("sheets with m next to nil");
-    }
-
-    /// One thing wrong with a sheet or its period.
-    fn spoil(&mut self, dated: &mut Dated) {
-        match self.random.below(12) {
-            0..=1 => {
-                let count = match self.random.below(3) {
-                    0 => self.random.pick(&[0, 1, 93, 94, 96, 97, 98, 190, 1_000]),
-                    1 => 94,
-                    _ => 96,
-                };
-                let last = self.random.between(0, 9);
-                dated.fields.resize(count, last);
-            }
-            2..=7 => {
-                let field = match self.random.below(4) {
-                    0 => self.random.pick(&[22, 23, 24, 25, 26, 27, 28, 93, 94]),
-                    _ => {
-                        self.spoilt = (self.spoilt + 1) % FIELDS;
-                        self.spoilt
-                    }
-                };
-                let (lowest, highest) = field_range(field);
-                let low = lowest > 0 && self.random.one_in(2);
-                let value = if low {
-                    lowest - 1
-                } else {
-                    self.random.pick(&[
-                        highest + 1,
-                        highest + 1,
-                        highest + 2,
-                        0x8000_0000,
-                        0x8000_0001,
-                        u32::MAX,
-                    ])
-                };
-                if let Some(place) = dated.fields.get_mut(field) {
-                    *place = value;
-                    self.note(if low {
-                        "sheets with a field below its range"
-                    } else {
-                        "sheets with a field above its range"
-                    });
-                }
-            }
-            8..=9 => match self.random.below(3) {
-                0 => {
-                    dated.year = self
-                        .random
-                        .pick(&[0, 1, 18, 2017, 2100, 2101, 67_554, u32::MAX])
-                }
-                1 => dated.month = self.random.pick(&[0, 13, 14, 257, u32::MAX]),
-                _ => dated.t = self.random.pick(&[0, 13, 14, 24, 257, u32::MAX]),
-            },
-            10 => {
-                // A term far above the limit.
-                let index = self.random.index(7);
-                if dated.fields.len() == FIELDS {
-                    dated.fields[22 + index] = 1;
-                    dated.fields[29 + index] = 1_000_000_000;
-                }
-            }
-            _ => {
-                // Nil above m in one pair.
-                let pair = 37 + 2 * self.random.index(28);
-                if dated.fields.len() == FIELDS {
-                    dated.fields[pair] = MONEY;
-                    dated.fields[pair + 1] = 0;
-                }
-            }
-        }
-    }
-
-    // Lines that are no calls.
-
-    fn noise(&mut self) {
-        if !self.random.one_in(30) {
-            return;
-        }
-        let line = match self.random.below(24) {
-            0 => b"".to_vec(),
-            1 => b"\r".to_vec(),
-            2 => b"     ".to_vec(),
-            3 => b"# a comment".to_vec(),
-            4 => b"   #open 1".to_vec(),
-            5..=7 => self.unknown_call(),
-            8..=12 => self.not_a_number(),
-            13..=21 => self.wrong_count(),
-            22 => self.junk(),
-            _ if self.random.one_in(3) => self.long_line(),
-            _ => b"#".to_vec(),
-        };
-        self.line(&line);
-    }
-
-    fn unknown_call(&mut self) -> Vec<u8> {
-        const WORDS: [&[u8]; 16] = [
-            b"SET 2023 10 3",
-            b"Open 1",
-            b"opens 1",
-            b"ope 1",
-            b"quit",
-            b"help",
-            b"1",
-            b"open\t1",
-            b"\topen 1",
-            b"open\r 1",
-            b"\xef\xbb\xbfopen 1",
-            b"open\x00 1",
-            b"-",
-            b"benchmarks 0 0 0 0",
-            b"drop# 1",
-            b"\r\r",
-        ];
-        self.random.pick(&WORDS).to_vec()
-    }
-
-    fn not_a_number(&mut self) -> Vec<u8> {
-        const WORDS: [&[u8]; 18] = [
-            b"+1",
-            b"-1",
-            b"1.0",
-            b"1,000",
-            b"0x10",
-            b"1e3",
-            b"4294967296",
-            b"04294967296",
-            b"4294967297",
-            b"42949672950",
-            b"18446744073709551617",
-            b"340282366920938463463374607431768211457",
-            b"one",
-            b"1_000",
-            b"1\t2",
-            b"#",
-            b"\xc2\xb2",
-            b"1\r",
-        ];
-        const CALLS: [&str; 8] = [
-            "set",
-            "put",
-            "open",
-            "close",
-            "drop",
-            "benchmark",
-            "maximum",
-            "quote",
-        ];
-        let call = self.random.pick(&CALLS);
-        let bad = self.random.pick(&WORDS);
-        let count = if call == "set" {
-            self.random.pick(&[1, 2, 3, 98])
-        } else {
-            1 + self.random.index(15)
-        };
-        let place = self.random.index(count);
-        let mut line = call.as_bytes().to_vec();
-        for i in 0..count {
-            line.push(b' ');
-            if i == place {
-                line.extend_from_slice(bad);
-            } else {
-                line.extend_from_slice(self.random.between(0, 99).to_string().as_bytes());
-            }
-        }
-        // A last word "1\r" would be the number 1 with a line end.
-        if line.ends_with(b"\r") {
-            line.push(b' ');
-        }
-        line
-    }
-
-    fn wrong_count(&mut self) -> Vec<u8> {
-        const CALLS: [(&str, &[usize]); 8] = [
-            ("set", &[0, 1, 2]),
-            ("put", &[0]),
-            ("open", &[0, 2, 3, 20]),
-            ("close", &[0, 2, 3, 20]),
-            ("drop", &[0, 2, 3, 20]),
-            ("benchmark", &[0, 1, 3, 5, 20]),
-            ("maximum", &[0, 1, 3, 5, 20]),
-            ("quote", &[0, 1, 2]),
-        ];
-        let (call, counts) = self.random.pick(&CALLS);
-        let mut line = call.to_string();
-        for _ in 0..self.random.pick(counts) {
-            line.push(' ');
-            line.push_str(&self.random.between(0, 13).to_string());
-        }
-        line.into_bytes()
-    }
-
-    fn junk(&mut self) -> Vec<u8> {
-        let count = self.random.index(200);
-        (0..count)
-            .map(|_| match self.random.bits() as u8 {
-                b'\n' => b' ',
-                byte => byte,
-            })
-            .collect()
-    }
-
-    /// A line next to the longest that is taken.
-    fn long_line(&mut self) -> Vec<u8> {
-        let mut line = match self.random.below(6) {
-            0 => b"#".to_vec(),
-            1 => b"open 33".to_vec(),
-            2 => b"open 33 x".to_vec(),
-            3 => b"put 33 0".to_vec(),
-            4 => b"benchmark 0 0 0 0".to_vec(),
-            _ => Vec::new(),
-        };
-        let length = LINE_LIMIT + self.random.pick(&[0, 0, 1, 1, 2, 100, 60_000]);
-        let filling = self.random.pick(b"   0x#");
-        line.resize(length, filling);
-        if self.random.one_in(3) {
-            *line.last_mut().expect("a long line") = b'\r';
-        }
-        line
-    }
 }
 
 /// A tariff that costs nothing.
 const FREE: [u32; RECORD] = [1, 1, 0, ALL_REGIONS, 3, 0, 0, 0, 0, 0, 0, 0, 0];
-
-fn gcd(a: u32, b: u32) -> u32 {
-    if b == 0 {
-        a
-    } else {
-        gcd(b, a % b)
-    }
-}

@@ -3,7 +3,7 @@
 mod common;
 
 use second::desk::Desk;
-use second::script::{script, speed_script};
+use second::script::{script, speed_script, Writer};
 
 fn run(input: &[u8]) -> String {
     let mut desk = Desk::new();
@@ -182,7 +182,7 @@ fn any_bytes() {
 fn pieces_of_any_size() {
     let mut text = b"# ".repeat(10_000);
     text.push(b'\n');
-    text.extend(script(4, 3_000).text);
+    text.extend(script(4, 3_000));
     let whole = run(&text);
     assert!(whole.starts_with("error line 1: longer than 16384 bytes\n"));
     for size in [1, 2, 7, 97, 16_383, 16_384, 16_385, 65_536] {
@@ -215,9 +215,11 @@ fn pieces_of_any_size() {
 
 #[test]
 fn scripts_are_the_same_from_the_same_seed() {
-    assert_eq!(script(9, 500).text, script(9, 500).text);
-    assert_ne!(script(9, 500).text, script(10, 500).text);
-    assert_eq!(script(9, 500).calls, 500);
+    assert_eq!(script(9, 500), script(9, 500));
+    assert_ne!(script(9, 500), script(10, 500));
+    let mut writer = Writer::new(9, 500);
+    writer.by_ref().for_each(drop);
+    assert_eq!(writer.calls(), 500);
 }
 
 #[test]

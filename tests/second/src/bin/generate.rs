@@ -2,27 +2,30 @@
 //!
 //!     generate SEED CALLS            calls of all sorts, refused ones and errors among them
 //!     generate --speed SEED LINES    exactly LINES well-formed calls, for timing
+//!     generate --fuzz SEED CASE      the input of a case of the fuzz of bytes
 
 use std::io::Write;
 use std::process::ExitCode;
 
+use second::fuzz::Fuzz;
 use second::script::{script, speed_script};
+
+fn text(arguments: &[&str]) -> Option<Vec<u8>> {
+    let number = |word: &str| word.parse::<u64>().ok();
+    Some(match *arguments {
+        ["--speed", seed, lines] => speed_script(number(seed)?, number(lines)? as usize),
+        ["--fuzz", seed, case] => Fuzz::new(number(seed)?).input(number(case)?),
+        [seed, calls] => script(number(seed)?, number(calls)? as usize),
+        _ => return None,
+    })
+}
 
 fn main() -> ExitCode {
     let arguments: Vec<String> = std::env::args().skip(1).collect();
-    let (speed, numbers) = match arguments.split_first() {
-        Some((first, rest)) if first == "--speed" => (true, rest),
-        _ => (false, &arguments[..]),
-    };
-    let numbers: Option<Vec<u64>> = numbers.iter().map(|word| word.parse().ok()).collect();
-    let Some(&[seed, count]) = numbers.as_deref() else {
-        eprintln!("usage: generate [--speed] SEED COUNT");
+    let arguments: Vec<&str> = arguments.iter().map(String::as_str).collect();
+    let Some(text) = text(&arguments) else {
+        eprintln!("usage: generate [--speed | --fuzz] SEED NUMBER");
         return ExitCode::from(2);
-    };
-    let text = if speed {
-        speed_script(seed, count as usize)
-    } else {
-        script(seed, count as usize).text
     };
     match std::io::stdout().write_all(&text) {
         Ok(()) => ExitCode::SUCCESS,

@@ -1,0 +1,186 @@
+//! The desk with a fault, to show that the comparison finds it.
+//!
+//!     wrong_desk FAULT
+//!
+//! The faults are listed in `tests/wrong_desks.rs`, by the part of the comparison that has to
+//! find each. Without one of them it is a right desk.
+
+use std::io::{self, Read, Write};
+use std::process::ExitCode;
+use std::time::Duration;
+
+use second::desk::{Desk, LINE_LIMIT};
+use second::{period_days, Tariff};
+
+const BLOCK: usize = 65_536;
+
+/// The desk's lines cut out of its input, with the fault.
+struct WrongDesk {
+    fault: String,
+    desk: Desk,
+    begun: Vec<u8>,
+}
+
+impl WrongDesk {
+    fn is(&self, fault: &str) -> bool {
+        self.fault == fault
+    }
+
+    /// Takes what one read has given.
+    fn take(&mut self, bytes: &[u8], out: &mut Vec<u8>) {
+        let full = bytes.len() == BLOCK;
+        let mut bytes = bytes;
+        if full && self.is("the last byte of a full block is lost") {
+            bytes = &bytes[..BLOCK - 1];
+        }
+        for &byte in bytes {
+            if byte == b'\n' {
+                self.end_line(out);
+            } else {
+                self.begun.push(byte);
+            }
+        }
+        let ended = bytes.last() == Some(&b'\n');
+        if full && !ended && self.is("a line ends with a full block") {
+            self.end_line(out);
+        }
+        if full && ended && self.is("a line more after a full block") {
+            self.end_line(out);
+        }
+        if full
+            && bytes.last() == Some(&b'\r')
+            && self.is("a return at the end of a full block is lost")
+        {
+            self.begun.pop();
+        }
+        if !ended && self.is("half a line is answered") {
+            self.end_line(out);
+        }
+    }
+
+    fn end_line(&mut self, out: &mut Vec<u8>) {
+        let line = std::mem::take(&mut self.begun);
+        self.line(&line, out);
+    }
+
+    fn line(&mut self, line: &[u8], out: &mut Vec<u8>) {
+        let too_long = [b'x'; LINE_LIMIT + 1];
+        let comment = line.iter().find(|&&byte| byte != b' ') == Some(&b'#');
+        let line = match &self.fault[..] {
+            "16,384 bytes are too long" if line.len() == LINE_LIMIT => &too_long[..],
+            "16,385 bytes are not too long" if line.len() == LINE_LIMIT + 1 => &line[..LINE_LIMIT],
+            "the return is not counted" => line.strip_suffix(b"\r").unwrap_or(line),
+            "a long comment is passed over" if comment => b"#",
+            _ => line,
+        };
+        let start = out.len();
+        self.desk.line(line, out);
+        if self.is("silent lines are answered") && out.len() == start {
+            out.extend_from_slice(b"ok\n");
+        }
+        if let Some(refusal) = self.wrong_refusal(line, &out[start..]) {
+            out.truncate(start);
+            out.extend_from_slice(refusal);
+        }
+    }
+
+    /// Another refusal than the one that comes first.
+    fn wrong_refusal(&self, line: &[u8], answer: &[u8]) -> Option<&'static [u8]> {
+        let line = String::from_utf8_lossy(line);
+        let mut words = line.split_ascii_whitespace();
+        let call = words.next()?;
+        let numbers: Vec<u32> = words.flat_map(str::parse).collect();
+        match (&self.fault[..], call, answer) {
+            ("put: 8 before 7", "put", b"refused 7\n") if Tariff::new(&numbers[1..]).is_none() => {
+                Some(b"refused 8\n")
+            }
+            ("set: 3 before 2", "set", b"refused 2\n")
+                if period_days(numbers[0], numbers[1], numbers[2]).is_none() =>
+            {
+                Some(b"refused 3\n")
+            }
+            ("quote: 13 before 10", "quote", b"refused 10\n") if numbers[1] > 13 => {
+                Some(b"refused 13\n")
+            }
+            ("maximum: 10 before 13", "maximum", b"refused 13\n")
+                if self.desk.book().t().is_none() =>
+            {
+                Some(b"refused 10\n")
+            }
+            _ => None,
+        }
+    }
+}
+
+fn work(fault: &str) -> io::Result<ExitCode> {
+    let mut input = io::stdin().lock();
+    let mut output = io::stdout().lock();
+    let mut wrong = WrongDesk {
+        fault: fault.to_string(),
+        desk: Desk::new(),
+        begun: Vec::new(),
+    };
+    match fault {
+        "it leaves at once" => return Ok(ExitCode::SUCCESS),
+        "it reads nothing" => return Ok(linger()),
+        "it answers without end" => loop {
+            output.write_all(b"ok\nok 1\nok 1 2\n")?;
+        },
+        _ => {}
+    }
+    let mut block = vec![0; BLOCK];
+    let mut answers = Vec::new();
+    loop {
+        let read = input.read(&mut block)?;
+        let mut kept = 0;
+        if read == 0 {
+            if !wrong.begun.is_empty() && !wrong.is("the last line is swallowed") {
+                wrong.end_line(&mut answers);
+            }
+        } else {
+            wrong.take(&block[..read], &mut answers);
+            let last = answers.len().saturating_sub(1);
+            let mut feeds = answers
+                .iter()
+                .take(last)
+                .enumerate()
+                .filter(|(_, &byte)| byte == b'\n');
+            kept = match fault {
+                "all answers come at the end" | "it answers nothing" => answers.len(),
+                "the last answer comes with the next line" => {
+                    feeds.next_back().map_or(answers.len(), |(i, _)| last - i)
+                }
+                "of several lines only the first is answered at once" => {
+                    feeds.next().map_or(0, |(i, _)| last - i)
+                }
+                _ => 0,
+            };
+        }
+        if fault == "it answers nothing" {
+            answers.clear();
+            kept = 0;
+        }
+        let sent = answers.len() - kept;
+        output.write_all(&answers[..sent])?;
+        output.flush()?;
+        answers.drain(..sent);
+        if read == 0 {
+            return Ok(match fault {
+                "it does not leave" => linger(),
+                "it leaves with 3" => ExitCode::from(3),
+                _ => ExitCode::SUCCESS,
+            });
+        }
+    }
+}
+
+/// Stays for longer than anyone waits.
+fn linger() -> ExitCode {
+    std::thread::sleep(Duration::from_secs(60));
+    ExitCode::SUCCESS
+}
+
+fn main() -> ExitCode {
+    let fault = std::env::args().nth(1).unwrap_or_default();
+    work(&fault).unwrap_or(ExitCode::FAILURE)
+}

@@ -1,0 +1,461 @@
+//! What the lines of a script and their answers reach: each refusal of each call, each error,
+//! and the edges.
+
+use std::cmp::Ordering;
+use std::fmt::Write;
+
+use crate::book::{Book, State, PLACES};
+use crate::period_days;
+use crate::sheet::{field_range, FIELDS};
+use crate::tally::Tally;
+use crate::tariff::{MONTH_LIMIT, RECORD};
+
+/// What is met in the scripts of one or more books.
+pub struct Counts {
+    pub tally: Tally,
+    /// The period in force, as the calls so far have it.
+    period: Option<[u32; 3]>,
+    /// The key of the sheet in force and its period.
+    in_force: u64,
+    records: [[u32; RECORD]; PLACES],
+    used: [bool; PLACES],
+    open: [bool; PLACES],
+    /// The numbers of the line.
+    numbers: Vec<u32>,
+    /// The numbers of the answer.
+    values: Vec<u64>,
+    name: String,
+}
+
+impl Default for Counts {
+    fn default() -> Counts {
+        Counts {
+            tally: Tally::default(),
+            period: None,
+            in_force: 0,
+            records: [[0; RECORD]; PLACES],
+            used: [false; PLACES],
+            open: [false; PLACES],
+            numbers: Vec::new(),
+            values: Vec::new(),
+            name: String::new(),
+        }
+    }
+}
+
+/// Counts a thing whose name is put together.
+macro_rules! count {
+    ($self:ident, $($name:tt)*) => {{
+        $self.name.clear();
+        write!($self.name, $($name)*).expect("a name");
+        $self.tally.one(&$self.name);
+    }};
+}
+
+impl Counts {
+    /// A script begins on a fresh book.
+    pub fn fresh_book(&mut self) {
+        self.period = None;
+        self.used = [false; PLACES];
+        self.open = [false; PLACES];
+    }
+
+    /// Counts one line and its answer, neither with its line feed; `book` is the book after it.
+    pub fn line(&mut self, line: &[u8], answer: &[u8], book: &Book) {
+        if answer.is_empty() {
+            return self.tally.one("lines passed over");
+        }
+        let answer = std::str::from_utf8(answer).expect("answers are plain text");
+        let ended = line.strip_suffix(b"\r");
+        let mut words = ended
+            .unwrap_or(line)
+            .split(|&byte| byte == b' ')
+            .filter(|word| !word.is_empty());
+        let call = words.next().unwrap_or_default();
+        if let Some(error) = answer.strip_prefix("error line ") {
+            let kind = error.split_once(": ").map_or(error, |(_, kind)| kind);
+            if kind.ends_with("is not a number from 0 to 4294967295") {
+                count!(
+                    self,
+                    "error: not a number, {}",
+                    String::from_utf8_lossy(call)
+                );
+            } else {
+                count!(self, "error: {kind}");
+            }
+            return;
+        }
+        self.numbers.clear();
+        for word in words {
+            let value = word
+                .iter()
+                .fold(0, |value, digit| 10 * value + u64::from(digit - b'0'));
+            self.numbers.push(value as u32);
+            if word.len() > 10 {
+                self.tally.one("numbers of more than 10 digits");
+            }
+            if value == u64::from(u32::MAX) {
+                self.tally.one("numbers of 4294967295");
+            }
+        }
+        if ended.is_some() {
+            self.tally.one("calls ended by a carriage return");
+        }
+        let mut answers = answer.split(' ');
+        let ok = answers.next() == Some("ok");
+        self.values.clear();
+        self.values.extend(answers.flat_map(str::parse::<u64>));
+
+        self.tally.one("calls");
+        let call = std::str::from_utf8(call).expect("a call's word");
+        if ok {
+            count!(self, "{call} ok");
+        } else {
+            count!(self, "{call} refused {}", self.values[0]);
+        }
+        let numbers = std::mem::take(&mut self.numbers);
+        let values = std::mem::take(&mut self.values);
+        let refusal = if ok { 0 } else { values[0] };
+        match call {
+            "set" => self.set(&numbers, refusal, book),
+            "put" if ok => self.put(&numbers),
+            "open" => self.open(&numbers, refusal, &values),
+            "close" if ok => {
+                self.open[numbers[0] as usize - 1] = false;
+                self.tally.different("codes closed", numbers[0].into());
+            }
+            "drop" if ok => {
+                self.used[numbers[0] as usize - 1] = false;
+                self.tally.different("codes dropped", numbers[0].into());
+            }
+            "benchmark" | "maximum" => self.question(call, &numbers, refusal, &values),
+            "quote" => self.quote(&numbers, refusal, &values),
+            _ => {}
+        }
+        self.numbers = numbers;
+        self.values = values;
+    }
+
+    fn set(&mut self, numbers: &[u32], refusal: u64, book: &Book) {
+        let period = [numbers[0], numbers[1], numbers[2]];
+        let fields = &numbers[3..];
+        let key = key(numbers);
+        self.tally.different("sheets submitted", key);
+        match refusal {
+            0 => {
+                self.tally.different("sheets accepted", key);
+                if self.period.is_some() && self.in_force == key {
+                    self.tally.one("set of the sheet in force");
+                }
+                self.in_force = key;
+                self.accepted_sheet(period, fields, book);
+            }
+            2 => {
+                let tally = &mut self.tally;
+                let field = only(|field| {
+                    let (lowest, highest) = field_range(field);
+                    fields[field] < lowest || fields[field] > highest
+                });
+                if let Some(field) = field {
+                    let (lowest, highest) = field_range(field);
+                    let value = fields[field];
+                    if value == highest + 1 {
+                        tally.different("fields alone, one above their range", field as u64);
+                    } else if value < lowest {
+                        tally.different("fields alone, one below their range", field as u64);
+                    } else {
+                        tally.different("fields alone, far above their range", field as u64);
+                    }
+                }
+            }
+            3 => {
+                let [year, month, t] = period;
+                if period_days(2018, month, t).is_some() && [2017, 2100].contains(&year) {
+                    count!(self, "set refused 3 for the year {year} alone");
+                }
+                if period_days(year, 1, t).is_some() && [0, 13].contains(&month) {
+                    count!(self, "set refused 3 for the month {month} alone");
+                }
+                if period_days(year, month, 1).is_some() && [0, 13].contains(&t) {
+                    count!(self, "set refused 3 for a t of {t} alone");
+                }
+            }
+            4 => {
+                let term = only(|field| {
+                    let index = match field {
+                        0..=3 => 0,
+                        4..=7 => 1,
+                        8..=11 => field - 5,
+                        12..=15 | 20..=21 => 2,
+                        _ => return false,
+                    };
+                    let indexed = u64::from(fields[field]) * u64::from(fields[29 + index]);
+                    // Half a mill above the limit rounds up.
+                    2 * indexed >= 200_000_001 * u64::from(fields[22 + index])
+                });
+                if let Some(field) = term {
+                    let what = "terms that alone were above 100,000,000";
+                    self.tally.different(what, field as u64);
+                }
+            }
+            _ => {}
+        }
+    }
+
+    fn accepted_sheet(&mut self, period: [u32; 3], fields: &[u32], book: &Book) {
+        let after: [bool; PLACES] =
+            std::array::from_fn(|i| book.state(i as u32 + 1) == Some(State::Open));
+        let was = self.open.iter().filter(|&&open| open).count();
+        let is = after.iter().filter(|&&open| open).count();
+        self.open = after;
+        if is > 0 && is < was {
+            self.tally.one("set demoting some and keeping some");
+        } else if is < was {
+            self.tally.one("set demoting all the open ones");
+        } else if is > 0 {
+            self.tally.one("set keeping all the open ones");
+        }
+        self.period = Some(period);
+        let [year, month, t] = period;
+        match (year, month) {
+            (2018, 1) => self.tally.one("periods from January 2018"),
+            (2099, 12) => self.tally.one("periods from December 2099"),
+            _ => {}
+        }
+        if [1, 12].contains(&t) {
+            count!(self, "periods with a t of {t}");
+        }
+        for (field, &value) in fields.iter().enumerate() {
+            let (lowest, highest) = field_range(field);
+            if value == lowest {
+                let what = "fields accepted at their lowest";
+                self.tally.different(what, field as u64);
+            } else if value == highest {
+                let what = "fields accepted at their highest";
+                self.tally.different(what, field as u64);
+            }
+        }
+    }
+
+    fn put(&mut self, numbers: &[u32]) {
+        let record: [u32; RECORD] = numbers[1..].try_into().expect("an accepted record");
+        let place = numbers[0] as usize - 1;
+        self.records[place] = record;
+        self.tally.one(if self.used[place] {
+            "put over a draft"
+        } else {
+            "put in an empty place"
+        });
+        self.used[place] = true;
+        self.tally.different("codes put", numbers[0].into());
+        self.shape("put", &record);
+        let n = record[1] as usize;
+        let steps = &record[9..];
+        match record[0] {
+            1 => {
+                let steps = &steps[..n - 1];
+                if steps.first() == Some(&1) {
+                    self.tally.one("put: first step at 1 kWh");
+                }
+                if steps.last() == Some(&9_999) {
+                    self.tally.one("put: last step at 9,999 kWh");
+                }
+                if steps.windows(2).any(|two| two[0] + 1 == two[1]) {
+                    self.tally.one("put: steps side by side");
+                }
+            }
+            3 => {
+                if steps[..n].contains(&0) {
+                    self.tally.one("put: kind 3 with a share of 0");
+                }
+                if let Some(place) = steps[..n].iter().position(|&share| share == 100) {
+                    count!(
+                        self,
+                        "put: kind 3 with a share of 100 in place {place} of {n}"
+                    );
+                }
+            }
+            _ => {}
+        }
+        match record[2] {
+            0 => self.tally.one("put: standing charge of 0"),
+            1_000_000 => self.tally.one("put: standing charge of 1,000,000"),
+            _ => {}
+        }
+        for rate in [0, 200_000] {
+            if record[5..5 + n].contains(&rate) {
+                count!(self, "put: a rate of {rate}");
+            }
+        }
+    }
+
+    fn shape(&mut self, what: &str, record: &[u32; RECORD]) {
+        count!(self, "{what}: kind {}, n {}", record[0], record[1]);
+    }
+
+    fn open(&mut self, numbers: &[u32], refusal: u64, values: &[u64]) {
+        let place = (numbers[0] as usize).wrapping_sub(1);
+        match refusal {
+            0 => {
+                let record = self.records[place];
+                self.open[place] = true;
+                self.tally.different("codes opened", numbers[0].into());
+                self.tally.different("numbers of cells opened", values[0]);
+                self.shape("opened", &record);
+                if [1, 28].contains(&values[0]) {
+                    count!(self, "opened with cells: {}", values[0]);
+                }
+            }
+            11 => {
+                let record = self.records[place];
+                let [_, region, method, excess, worst, ..] = *values else {
+                    panic!("an answer 11 has months");
+                };
+                self.shape("11", &record);
+                let cell = 2 * region + method;
+                self.tally
+                    .different("cells that were the first over the cap", cell);
+                let t = values.len() as u64 - 4;
+                self.tally.different("lengths of the months of 11", t);
+                match worst {
+                    0 => self.tally.one("11 at months of 0"),
+                    10_000 => self.tally.one("11 at months of 10,000"),
+                    _ => self.tally.one("11 at months of a step"),
+                }
+                match worst {
+                    1 => self.tally.one("11 at months of a step at 1"),
+                    9_999 => self.tally.one("11 at months of a step at 9,999"),
+                    _ => {}
+                }
+                if excess > 1 << 53 {
+                    self.tally.one("11 with an excess above 2^53");
+                }
+            }
+            _ => {}
+        }
+    }
+
+    /// BENCHMARK and MAXIMUM.
+    fn question(&mut self, call: &str, numbers: &[u32], refusal: u64, values: &[u64]) {
+        let &[region, arrangement, method, last] = numbers else {
+            panic!("{call} takes 4 numbers");
+        };
+        let benchmark = call == "benchmark";
+        match refusal {
+            0 => {
+                let cell = u64::from(4 * region + 2 * arrangement + method);
+                if benchmark {
+                    let cell = 2 * cell + u64::from(last);
+                    self.tally
+                        .different("benchmarks by their four arguments", cell);
+                    if values[0] > 1 << 31 {
+                        self.tally.one("benchmarks above 2^31");
+                    }
+                } else {
+                    let what = "maximums by region, arrangement and method";
+                    self.tally.different(what, cell);
+                    if [0, 120_000].contains(&last) {
+                        count!(self, "maximum for a total of {last}");
+                    }
+                }
+            }
+            13 => {
+                let limits = [13, 1, 1, if benchmark { 1 } else { 120_000 }];
+                let mut past = (0..4).filter(|&i| numbers[i] > limits[i]);
+                if let (Some(i), None) = (past.next(), past.next()) {
+                    let argument = ["region", "arrangement", "method", "last argument"][i];
+                    if numbers[i] == limits[i] + 1 {
+                        count!(self, "{call} refused 13: {argument} alone, by one");
+                    }
+                }
+            }
+            _ => {}
+        }
+    }
+
+    fn quote(&mut self, numbers: &[u32], refusal: u64, values: &[u64]) {
+        let [code, region, method, ref months @ ..] = *numbers else {
+            panic!("quote takes at least 3 numbers");
+        };
+        let place = (code as usize).wrapping_sub(1);
+        let Some(period) = self.period else {
+            return;
+        };
+        match refusal {
+            0 => {
+                let record = self.records[place];
+                self.shape("quoted", &record);
+                self.tally.different("periods quoted in", key(&period));
+                let cell = 2 * region + method;
+                let cell = if record[0] == 1 { cell } else { 28 + cell };
+                let what = "cells quoted, by arrangement";
+                self.tally.different(what, cell.into());
+                self.tally.one(match values[0].cmp(&values[1]) {
+                    Ordering::Less => "quote below the cap",
+                    Ordering::Equal => "quote exactly at the cap",
+                    Ordering::Greater => "quote above the cap",
+                });
+                for end in [0, MONTH_LIMIT] {
+                    if months.iter().all(|&kwh| kwh == end) {
+                        count!(self, "quoted: {end} kWh in every month");
+                    }
+                }
+                if values[0] > 1 << 53 {
+                    self.tally.one("quoted charges above 2^53");
+                }
+                if values[1] > 1 << 53 {
+                    self.tally.one("quoted maximums above 2^53");
+                }
+            }
+            13 => {
+                let record = self.records[place];
+                let t = period[2] as usize;
+                let faults = [
+                    (region > 13, "region past 13"),
+                    (
+                        region <= 13 && record[3] >> region & 1 == 0,
+                        "region not offered",
+                    ),
+                    (method > 1, "method past 1"),
+                    (
+                        method <= 1 && record[4] >> method & 1 == 0,
+                        "method not offered",
+                    ),
+                    (months.len() < t, "a month too few"),
+                    (months.len() > t, "a month too many"),
+                    (
+                        months.iter().any(|&kwh| kwh > MONTH_LIMIT),
+                        "a month above 10,000",
+                    ),
+                ];
+                let mut met = faults.iter().filter(|(met, _)| *met);
+                if let (Some((_, fault)), None) = (met.next(), met.next()) {
+                    count!(self, "quote refused 13: {fault} alone");
+                    if t > 1 && months.first() == Some(&(MONTH_LIMIT + 1)) {
+                        self.tally.one("quote refused 13: first month 10,001");
+                    }
+                    if t > 1 && months.last() == Some(&(MONTH_LIMIT + 1)) {
+                        self.tally.one("quote refused 13: last month 10,001");
+                    }
+                }
+            }
+            _ => {}
+        }
+    }
+}
+
+/// The only field of a sheet for which the test holds, if there is just one.
+fn only(test: impl Fn(usize) -> bool) -> Option<usize> {
+    let mut fields = (0..FIELDS).filter(|&field| test(field));
+    fields.next().filter(|_| fields.next().is_none())
+}
+
+/// A key that tells lists of numbers apart (FNV-1a, word by word, with a last stir).
+fn key(numbers: &[u32]) -> u64 {
+    let key = numbers
+        .iter()
+        .fold(0xcbf2_9ce4_8422_2325, |key: u64, &number| {
+            (key ^ u64::from(number)).wrapping_mul(0x0000_0100_0000_01b3)
+        });
+    key ^ key >> 32
+}

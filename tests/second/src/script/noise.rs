@@ -1,0 +1,151 @@
+//! Lines of a random script that are no calls.
+
+use super::*;
+
+impl Writer {
+    pub(super) fn noise(&mut self) {
+        if !self.random.one_in(30) {
+            return;
+        }
+        let line = match self.random.below(24) {
+            0 => b"".to_vec(),
+            1 => b"\r".to_vec(),
+            2 => b"     ".to_vec(),
+            3 => b"# a comment".to_vec(),
+            4 => b"   #open 1".to_vec(),
+            5..=7 => self.unknown_call(),
+            8..=12 => self.not_a_number(),
+            13..=21 => self.wrong_count(),
+            22 => self.junk(),
+            _ if self.random.one_in(3) => self.long_line(),
+            _ => b"#".to_vec(),
+        };
+        self.line(&line);
+    }
+
+    pub(super) fn unknown_call(&mut self) -> Vec<u8> {
+        const WORDS: [&[u8]; 16] = [
+            b"SET 2023 10 3",
+            b"Open 1",
+            b"opens 1",
+            b"ope 1",
+            b"quit",
+            b"help",
+            b"1",
+            b"open\t1",
+            b"\topen 1",
+            b"open\r 1",
+            b"\xef\xbb\xbfopen 1",
+            b"open\x00 1",
+            b"-",
+            b"benchmarks 0 0 0 0",
+            b"drop# 1",
+            b"\r\r",
+        ];
+        self.random.pick(&WORDS).to_vec()
+    }
+
+    pub(super) fn not_a_number(&mut self) -> Vec<u8> {
+        const WORDS: [&[u8]; 18] = [
+            b"+1",
+            b"-1",
+            b"1.0",
+            b"1,000",
+            b"0x10",
+            b"1e3",
+            b"4294967296",
+            b"04294967296",
+            b"4294967297",
+            b"42949672950",
+            b"18446744073709551617",
+            b"340282366920938463463374607431768211457",
+            b"one",
+            b"1_000",
+            b"1\t2",
+            b"#",
+            b"\xc2\xb2",
+            b"1\r",
+        ];
+        const CALLS: [&str; 8] = [
+            "set",
+            "put",
+            "open",
+            "close",
+            "drop",
+            "benchmark",
+            "maximum",
+            "quote",
+        ];
+        let call = self.random.pick(&CALLS);
+        let bad = self.random.pick(&WORDS);
+        let count = if call == "set" {
+            self.random.pick(&[1, 2, 3, 98])
+        } else {
+            1 + self.random.index(15)
+        };
+        let place = self.random.index(count);
+        let mut line = call.as_bytes().to_vec();
+        for i in 0..count {
+            line.push(b' ');
+            if i == place {
+                line.extend_from_slice(bad);
+            } else {
+                line.extend_from_slice(self.random.between(0, 99).to_string().as_bytes());
+            }
+        }
+        // A last word "1\r" would be the number 1 with a line end.
+        if line.ends_with(b"\r") {
+            line.push(b' ');
+        }
+        line
+    }
+
+    pub(super) fn wrong_count(&mut self) -> Vec<u8> {
+        const CALLS: [(&str, &[usize]); 8] = [
+            ("set", &[0, 1, 2]),
+            ("put", &[0]),
+            ("open", &[0, 2, 3, 20]),
+            ("close", &[0, 2, 3, 20]),
+            ("drop", &[0, 2, 3, 20]),
+            ("benchmark", &[0, 1, 3, 5, 20]),
+            ("maximum", &[0, 1, 3, 5, 20]),
+            ("quote", &[0, 1, 2]),
+        ];
+        let (call, counts) = self.random.pick(&CALLS);
+        let mut line = call.to_string();
+        for _ in 0..self.random.pick(counts) {
+            line.push(' ');
+            line.push_str(&self.random.between(0, 13).to_string());
+        }
+        line.into_bytes()
+    }
+
+    pub(super) fn junk(&mut self) -> Vec<u8> {
+        let count = self.random.index(200);
+        (0..count)
+            .map(|_| match self.random.bits() as u8 {
+                b'\n' => b' ',
+                byte => byte,
+            })
+            .collect()
+    }
+
+    /// A line next to the longest that is taken.
+    pub(super) fn long_line(&mut self) -> Vec<u8> {
+        let mut line = match self.random.below(6) {
+            0 => b"#".to_vec(),
+            1 => b"open 33".to_vec(),
+            2 => b"open 33 x".to_vec(),
+            3 => b"put 33 0".to_vec(),
+            4 => b"benchmark 0 0 0 0".to_vec(),
+            _ => Vec::new(),
+        };
+        let length = LINE_LIMIT + self.random.pick(&[0, 0, 1, 1, 2, 100, 60_000]);
+        let filling = self.random.pick(b"   0x#");
+        line.resize(length, filling);
+        if self.random.one_in(3) {
+            *line.last_mut().expect("a long line") = b'\r';
+        }
+        line
+    }
+}

@@ -1,0 +1,136 @@
+//! Calls with two faults: the check that comes first is the answer.
+
+use super::*;
+
+/// The refusals of SET that one sheet can deserve together.
+const SHEET_FAULTS: [(u32, u32); 10] = [
+    (1, 2),
+    (1, 3),
+    (1, 4),
+    (1, 5),
+    (2, 3),
+    (2, 4),
+    (2, 5),
+    (3, 4),
+    (3, 5),
+    (4, 5),
+];
+
+impl Writer {
+    pub(super) fn two_faults(&mut self) {
+        match self.random.below(5) {
+            0 => self.sheet_with_two_faults(),
+            1 => self.put_with_two_faults(),
+            2 => self.open_with_two_faults(),
+            3 => self.question_with_two_faults(),
+            _ => self.quote_with_two_faults(),
+        }
+    }
+
+    fn sheet_with_two_faults(&mut self) {
+        let (first, second) = self.random.pick(&SHEET_FAULTS);
+        let mut dated = reference();
+        // The highest number first: 1 changes the length.
+        self.sheet_fault(second, &mut dated);
+        self.sheet_fault(first, &mut dated);
+        let answer = Book::new().set_dated(&dated);
+        if answer.is_err_and(|refusal| refusal.number() == first) {
+            self.note(&format!("order: set {first} before {second}"));
+        }
+        self.set(&dated);
+    }
+
+    /// Gives the reference sheet, or one with another fault, this fault too.
+    fn sheet_fault(&mut self, refusal: u32, dated: &mut Dated) {
+        match refusal {
+            1 if self.random.one_in(2) => drop(dated.fields.pop()),
+            1 => dated.fields.push(0),
+            2 => {
+                let field = self.random.pick(&[16, 19, 21, 36, 92]);
+                dated.fields[field] = field_range(field).1 + 1;
+            }
+            3 => match self.random.below(3) {
+                0 => dated.year = self.random.pick(&[2017, 2100]),
+                1 => dated.month = self.random.pick(&[0, 13]),
+                _ => dated.t = self.random.pick(&[0, 13]),
+            },
+            4 => {
+                // The policy cost of single-rate nil alone: the benchmark at nil rises with it.
+                dated.fields[8] = MONEY;
+                dated.fields[25] = 1;
+                dated.fields[32] = 1_000_000_000;
+            }
+            _ => {
+                let nil = 37 + 4 * self.region() as usize;
+                dated.fields[nil] = MONEY;
+                dated.fields[nil + 1] = 0;
+            }
+        }
+    }
+
+    fn put_with_two_faults(&mut self) {
+        let record = self.bad_record();
+        let code = if self.random.one_in(2) {
+            self.bad_code()
+        } else {
+            self.code_in(State::Open, 1_000)
+        };
+        if crate::Tariff::new(&record).is_none() {
+            match self.book.state(code) {
+                None => self.note("order: put 6 before 8"),
+                Some(State::Open) => self.note("order: put 7 before 8"),
+                Some(_) => {}
+            }
+        }
+        self.put(code, &record);
+    }
+
+    fn open_with_two_faults(&mut self) {
+        let code = if self.random.one_in(2) {
+            self.bad_code()
+        } else {
+            self.code_in(State::Empty, 1_000)
+        };
+        if self.book.t().is_none() {
+            match self.book.state(code) {
+                None => self.note("order: open 6 before 10"),
+                Some(State::Empty) => self.note("order: open 9 before 10"),
+                Some(_) => {}
+            }
+        }
+        self.open(code);
+    }
+
+    fn question_with_two_faults(&mut self) {
+        let bare = self.book.t().is_none();
+        if self.random.one_in(2) {
+            if bare {
+                self.note("order: benchmark 13 before 10");
+            }
+            self.call("benchmark", &[14, 0, 1, 0]);
+        } else {
+            if bare {
+                self.note("order: maximum 13 before 10");
+            }
+            self.call("maximum", &[0, 0, 1, 120_001]);
+        }
+    }
+
+    fn quote_with_two_faults(&mut self) {
+        let code = match self.random.below(3) {
+            0 => self.bad_code(),
+            1 => self.code_in(State::Empty, 1_000),
+            _ => self.code_in(State::Draft, 1_000),
+        };
+        let bare = self.book.t().is_none();
+        match self.book.state(code) {
+            None if bare => self.note("order: quote 6 before 10 and 13"),
+            None => self.note("order: quote 6 before 13"),
+            Some(State::Empty) if bare => self.note("order: quote 9 before 10 and 13"),
+            Some(State::Empty) => self.note("order: quote 9 before 13"),
+            Some(_) if bare => self.note("order: quote 10 before 13"),
+            Some(_) => {}
+        }
+        self.quote(code, 14, 2, &[MONTH_LIMIT + 1]);
+    }
+}

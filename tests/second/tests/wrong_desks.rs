@@ -1,0 +1,125 @@
+//! The comparison finds what is wrong with a desk, ends whatever the desk does, and finds
+//! nothing wrong with a right one.
+
+use std::time::{Duration, Instant};
+
+use second::program::Program;
+use second::runs::*;
+
+type Part = fn(&Program) -> Result<(), String>;
+
+fn wrong(fault: &str) -> Program {
+    Program::new(env!("CARGO_BIN_EXE_wrong_desk"))
+        .argument(fault)
+        .limit(Duration::from_millis(700))
+}
+
+fn fixed_conversations(program: &Program) -> Result<(), String> {
+    conversations(program, 1, CONVERSATIONS).map(drop)
+}
+
+fn fixed_fuzz(program: &Program) -> Result<(), String> {
+    fuzz_cases(program, FUZZ_SEED, FUZZ_CASES).map(drop)
+}
+
+fn first_seed(program: &Program) -> Result<(), String> {
+    random_calls(program, 1).map(drop)
+}
+
+#[test]
+fn right_desks_pass() {
+    for program in [
+        Program::new(env!("CARGO_BIN_EXE_desk")),
+        Program::new(env!("CARGO_BIN_EXE_wrong_desk")),
+    ] {
+        conversations(&program, 1, 12).unwrap();
+        fuzz_cases(&program, FUZZ_SEED, 200).unwrap();
+        random_calls(&program, 1).unwrap();
+    }
+}
+
+/// Each fault is found, and the report names the line and says this.
+fn all_found(faults: &[(&str, &str)], part: Part) {
+    for (fault, says) in faults {
+        match part(&wrong(fault)) {
+            Ok(()) => panic!("not found: {fault}"),
+            Err(report) => assert!(report.contains(says), "{fault}: {report}"),
+        }
+    }
+}
+
+#[test]
+fn conversations_find_answers_at_the_wrong_time() {
+    all_found(
+        &[
+            ("all answers come at the end", "no answer in time"),
+            (
+                "the last answer comes with the next line",
+                "no answer in time",
+            ),
+            (
+                "of several lines only the first is answered at once",
+                "no answer in time",
+            ),
+            ("half a line is answered", "answered too early"),
+            ("silent lines are answered", "answered too early"),
+            (
+                "the last line is swallowed",
+                "last line, without a line feed",
+            ),
+            ("it does not leave", "goes on after the end of its input"),
+            ("it leaves with 3", "left with exit status: 3"),
+        ],
+        fixed_conversations,
+    );
+}
+
+#[test]
+fn the_fuzz_finds_faults_at_the_longest_line_and_at_the_ends_of_blocks() {
+    all_found(
+        &[
+            ("16,384 bytes are too long", "longer than 16384 bytes"),
+            ("16,385 bytes are not too long", "longer than 16384 bytes"),
+            ("the return is not counted", "longer than 16384 bytes"),
+            ("a long comment is passed over", "longer than 16384 bytes"),
+            ("the last byte of a full block is lost", "expected:"),
+            ("a line ends with a full block", "expected:"),
+            ("a line more after a full block", "expected:"),
+            ("a return at the end of a full block is lost", "expected:"),
+            ("the last line is swallowed", "no answer"),
+        ],
+        fixed_fuzz,
+    );
+}
+
+#[test]
+fn random_calls_find_refusals_in_a_wrong_order() {
+    all_found(
+        &[
+            ("put: 8 before 7", "answered: refused 8"),
+            ("set: 3 before 2", "answered: refused 3"),
+            ("quote: 13 before 10", "answered: refused 13"),
+            ("maximum: 10 before 13", "answered: refused 10"),
+        ],
+        first_seed,
+    );
+}
+
+#[test]
+fn the_comparison_ends_whatever_the_program_does() {
+    let parts: [Part; 3] = [fixed_conversations, fixed_fuzz, first_seed];
+    for fault in [
+        "it leaves at once",
+        "it reads nothing",
+        "it answers without end",
+        "it answers nothing",
+        "it does not leave",
+    ] {
+        for part in parts {
+            let start = Instant::now();
+            part(&wrong(fault)).expect_err(fault);
+            assert!(start.elapsed() < Duration::from_secs(30), "{fault}");
+        }
+    }
+    first_seed(&Program::new("/no/such/program")).unwrap_err();
+}

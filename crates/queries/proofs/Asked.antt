@@ -1,6 +1,6 @@
 -- BENCHMARK and MAXIMUM, from what their checks answered: one law for each refusal and one for the figures.
 -- Assumes nothing.
-use mathlib.Core.Path.{_≡_, refl, sym, _∙_, ap}
+use mathlib.Core.Path.{_≡_, sym, _∙_, ap}
 use mathlib.Core.Bool.{Bool, true, false, _&&_}
 use Prim.Native.Nat.{ℕ, _*_, _<_, _≤_}
 use native.Mathlib.Omega.{arith}
@@ -16,19 +16,18 @@ use Rattle.cap.specs.declared.Terms.{Terms}
 use Rattle.cap.specs.Cap.{maximum}
 use Rattle.book.specs.declared.Book.{Book}
 use Rattle.book.specs.Book.{Reachable}
-use Rattle.book.proofs.Places.{never}
 use Rattle.queries.specs.declared.Told.{Told}
-use Rattle.queries.specs.declared.Told.the-variants.{Refused, Figure, Figures}
-use Rattle.queries.specs.Queries.{inRanges, refusalTold, termsIn, benchmarkOf, maximumOf}
+use Rattle.queries.specs.Queries.{Telling, refused, benchmarkCharge, maximumCharge, tellingOf, inRanges, benchmarkOf, maximumOf}
+use Rattle.queries.specs.Reading.{refusalTold, termsIn}
 use Rattle.book.proofs.InForce.{check-refused}
 use Rattle.queries.proofs.InForce.{charge-is, terms-told}
 
 -- a check that refuses, handed on
-pub hands-on : (t : Bool) (k n : ℕ) (check : Check) (r told : Told) → check ≡ unless t k Pass → check ≡ Refuse n
-    → r ≡ refusalTold check → (t ≡ false → Refused k ≡ told) → r ≡ told
+pub hands-on : (t : Bool) (k n : ℕ) (check : Check) (r : Told) (told : Telling) → check ≡ unless t k Pass → check ≡ Refuse n
+    → r ≡ refusalTold check → (t ≡ false → refused k ≡ told) → tellingOf r ≡ told
 hands-on t k n check r told e f g h =
     let p = check-refused t k n (sym e ∙ f) in
-    g ∙ ap refusalTold f ∙ ap Refused (p .0) ∙ h (p .1)
+    ap tellingOf (g ∙ ap refusalTold f) ∙ ap refused (p .0) ∙ h (p .1)
 
 -- arguments that pass 13
 pub record Within (r a p : ℕ) (last : Bool) : Type 0 where
@@ -56,34 +55,36 @@ total-most r a p n e = leb-true n 120000 (within r a p (leb n 120000) e .fourth)
 
 module _ (b : Book) (r a p n : ℕ) where
   -- BENCHMARK: 13, 10
-  pub benchmark-outside : (inRanges r a p && ltb n 2) ≡ false → Refused 13 ≡ benchmarkOf b r a p n
+  pub benchmark-outside : (inRanges r a p && ltb n 2) ≡ false → refused 13 ≡ benchmarkOf b r a p n
   unfolding benchmarkOf
   benchmark-outside e = rw e
 
-  pub benchmark-no-sheet : (inRanges r a p && ltb n 2) ≡ true → b .loaded ≡ false → Refused 10 ≡ benchmarkOf b r a p n
+  pub benchmark-no-sheet : (inRanges r a p && ltb n 2) ≡ true → b .loaded ≡ false → refused 10 ≡ benchmarkOf b r a p n
   unfolding benchmarkOf
   benchmark-no-sheet e f = rw (e, f)
 
   pub benchmark-told : Reachable b → (inRanges r a p && ltb n 2) ≡ true → b .loaded ≡ true
-      → Figure (getD (b .benchmarks .charges) (place r a p n) 0) ≡ benchmarkOf b r a p n
+      → benchmarkCharge (getD (b .benchmarks .charges) (place r a p n) 0) ≡ benchmarkOf b r a p n
   unfolding benchmarkOf
   benchmark-told h e f =
       let w = within r a p (ltb n 2) e in
-      rw (e, f) (ap Figure (charge-is b h f r a p n (w .region) (w .arrangement) (w .method) (ltb-true n 2 (w .fourth))))
+      rw (e, f) (ap benchmarkCharge (charge-is b h f r a p n (w .region) (w .arrangement) (w .method) (ltb-true n 2 (w .fourth))))
 
   -- MAXIMUM: 13, 10
-  pub maximum-outside : (inRanges r a p && leb n 120000) ≡ false → Refused 13 ≡ maximumOf b r a p n
+  pub maximum-outside : (inRanges r a p && leb n 120000) ≡ false → refused 13 ≡ maximumOf b r a p n
   unfolding maximumOf
   maximum-outside e = rw e
 
-  pub maximum-no-sheet : (inRanges r a p && leb n 120000) ≡ true → b .loaded ≡ false → Refused 10 ≡ maximumOf b r a p n
+  pub maximum-no-sheet : (inRanges r a p && leb n 120000) ≡ true → b .loaded ≡ false → refused 10 ≡ maximumOf b r a p n
   unfolding maximumOf
   maximum-no-sheet e f = rw (e, f)
 
   pub maximum-told : Reachable b → (inRanges r a p && leb n 120000) ≡ true → b .loaded ≡ true
-      → (e : Terms) → e ≡ termsIn (b .benchmarks) r a p → (most : ℕ) → most ≡ maximum e n → Figures most (12 * e .m) ≡ maximumOf b r a p n
+      → (e : Terms) → e ≡ termsIn (b .benchmarks) r a p → (most : ℕ) → most ≡ maximum e n
+      → maximumCharge (record { number = most; denominator = 12 * e .m }) ≡ maximumOf b r a p n
   unfolding maximumOf
   maximum-told h t f e its most is =
       let w = within r a p (leb n 120000) t in
       rw (t, f, is)
-      (ap (λ (d : Terms). Figures (maximum d n) (12 * d .m)) (its ∙ terms-told b h f r a p (w .region) (w .arrangement) (w .method)))
+      (ap (λ (d : Terms). maximumCharge (record { number = maximum d n; denominator = 12 * d .m }))
+      (its ∙ terms-told b h f r a p (w .region) (w .arrangement) (w .method)))

@@ -1,6 +1,6 @@
 -- The figures of the sheet in force: what a reachable book has beside its sheet is what the paper's formulas give for it.
 -- Assumes nothing.
-use mathlib.Core.Path.{_≡_, refl, sym, _∙_, ap, subst, subst₂}
+use mathlib.Core.Path.{_≡_, refl, _∙_, ap, subst₂}
 use mathlib.Core.Bool.{true}
 use mathlib.Core.List.{List, [], _∷_}
 use Prim.Native.Nat.{ℕ, zero, suc, _+_, _*_, _<_, _≤_}
@@ -19,7 +19,8 @@ use Rattle.book.specs.Calls.{Sheet}
 use Rattle.book.specs.Checks.{figuresOf}
 use Rattle.book.specs.Book.{sheetIn, Reachable}
 use Rattle.book.proofs.InForce.{figures-are}
-use Rattle.queries.specs.Queries.{termsOf, termsIn}
+use Rattle.queries.specs.Queries.{termsOf}
+use Rattle.queries.specs.Reading.{termsIn}
 
 -- m of an arrangement
 level-at : (s : List ℕ) (a : ℕ) → a < 2 → getD (field s 93 ∷ field s 94 ∷ []) a 0 ≡ field s (93 + a)

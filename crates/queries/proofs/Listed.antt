@@ -15,7 +15,8 @@ use Rattle.laws.proofs.Answers.{stops, ends}
 use Rattle.benchmark.specs.declared.Benchmarks.{Benchmarks}
 use Rattle.cap.specs.declared.Terms.{Terms}
 use Rattle.cap.specs.Cap.{Months}
-use Rattle.queries.specs.Queries.{termsIn, monthsAllowed}
+use Rattle.queries.specs.Queries.{monthsAllowed}
+use Rattle.queries.specs.Reading.{termsIn}
 
 -- month j is at most 10,000
 abbrev pub small : List ℕ → ℕ → Bool

@@ -29,8 +29,8 @@ use Rattle.book.specs.Sound.{tariffIn, Holds}
 use Rattle.book.proofs.Places.{never}
 use Rattle.book.proofs.Reached.{reached, tariff-held}
 use Rattle.book.proofs.Steps.{code-refused, code-passed, empty-refused, empty-passed}
-use Rattle.queries.specs.declared.Told.the-variants.{Refused, Figures}
-use Rattle.queries.specs.Queries.{termsIn, cellAllowed, monthsAllowed, quotable, quoted, quoteOf}
+use Rattle.queries.specs.Queries.{refused, quotation, cellAllowed, monthsAllowed, quotable, quoted, quoteOf}
+use Rattle.queries.specs.Reading.{termsIn}
 use Rattle.book.proofs.InForce.{figures-are}
 use Rattle.queries.proofs.InForce.{months-are}
 
@@ -70,9 +70,9 @@ module _ (b : Book) (from : Reachable b) (k : ℕ) (q : Place) (is : placeOf (b 
   tariff-valid = subst (λ y. validTariff y ≡ true) tariff-is (held-tariff .1)
 
 -- 6
-pub quote-outside : (b : Book) (k r p : ℕ) (months : List ℕ) (n : ℕ) → codeCheck k ≡ Refuse n → Refused n ≡ quoteOf b k r p months
+pub quote-outside : (b : Book) (k r p : ℕ) (months : List ℕ) (n : ℕ) → codeCheck k ≡ Refuse n → refused n ≡ quoteOf b k r p months
 unfolding quoteOf
-quote-outside b k r p months n e = let f = code-refused k n e in rw (f .1) (ap Refused (f .0))
+quote-outside b k r p months n e = let f = code-refused k n e in rw (f .1) (ap refused (f .0))
 
 -- the checks after 6 look at the place of the code
 module _ (b : Book) (k r p : ℕ) (months : List ℕ) (q : Place) (inside : codeCheck k ≡ Pass) (is : placeOf (b .places) k ≡ q) where
@@ -80,12 +80,12 @@ module _ (b : Book) (k r p : ℕ) (months : List ℕ) (q : Place) (inside : code
   in-range = code-passed k inside .2
 
   -- 9
-  pub quote-empty : (n : ℕ) → emptyCheck (q .state) ≡ Refuse n → Refused n ≡ quoteOf b k r p months
+  pub quote-empty : (n : ℕ) → emptyCheck (q .state) ≡ Refuse n → refused n ≡ quoteOf b k r p months
   unfolding quoteOf
-  quote-empty n e = let f = empty-refused (q .state) n e in rw (in-range, is, f .1) (ap Refused (f .0))
+  quote-empty n e = let f = empty-refused (q .state) n e in rw (in-range, is, f .1) (ap refused (f .0))
 
   -- 10
-  pub quote-no-sheet : emptyCheck (q .state) ≡ Pass → b .loaded ≡ false → Refused 10 ≡ quoteOf b k r p months
+  pub quote-no-sheet : emptyCheck (q .state) ≡ Pass → b .loaded ≡ false → refused 10 ≡ quoteOf b k r p months
   unfolding quoteOf
   quote-no-sheet d f = rw (in-range, is, empty-passed (q .state) (numbers q) d, f)
 
@@ -105,15 +105,17 @@ module _ (b : Book) (k r p : ℕ) (months : List ℕ) (q : Place) (inside : code
         ∙ ap (λ s. quoted s (sheetIn b) x r p months) e
 
     -- 13
-    pub quote-disallowed : (cellAllowed x r p && monthsAllowed (b .benchmarks .months) months) ≡ false → Refused 13 ≡ quoteOf b k r p months
+    pub quote-disallowed : (cellAllowed x r p && monthsAllowed (b .benchmarks .months) months) ≡ false → refused 13 ≡ quoteOf b k r p months
     quote-disallowed e = sym (by-test false e)
 
     -- the two figures, from the terms and the sides that the code works out
     pub quote-told : (cellAllowed x r p && monthsAllowed (b .benchmarks .months) months) ≡ true
         → (a : ℕ) → a ≡ arrangement x → (e : Terms) → e ≡ termsIn (b .benchmarks) r a p
-        → (n m : ℕ) → n ≡ charged e x months → m ≡ capped e months → Figures n m ≡ quoteOf b k r p months
+        → (n m : ℕ) → n ≡ charged e x months → m ≡ capped e months
+        → quotation (record { charge = n; maximum = m }) ≡ quoteOf b k r p months
     quote-told t a h e g n m u v =
         let same : e ≡ terms (figuresOf (sheetIn b)) x (cell r p) =
         g ∙ ap (λ (i : ℕ). termsIn (b .benchmarks) r i p) h ∙ terms-of-cell (b .benchmarks) x r p
         ∙ ap (λ f. terms f x (cell r p)) (figures-are b from loaded) in
-        rw (u, v) (ap (λ (d : Terms). Figures (charged d x months) (capped d months)) same ∙ sym (by-test true t))
+        rw (u, v)
+        (ap (λ (d : Terms). quotation (record { charge = charged d x months; maximum = capped d months })) same ∙ sym (by-test true t))

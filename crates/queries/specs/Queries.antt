@@ -1,4 +1,4 @@
--- BENCHMARK, MAXIMUM and QUOTE of document 01.
+-- BENCHMARK, MAXIMUM and QUOTE of document 01: what each answers, on refused input too.
 -- Assumes nothing.
 use mathlib.Core.Bool.{Bool, true, false, _&&_}
 use mathlib.Core.List.{List}
@@ -9,33 +9,54 @@ use lib.ListN.{length, getD}
 use Rattle.laws.specs.Notions.{every}
 use Rattle.calendar.specs.Calendar.{periodDays}
 use Rattle.sheet.specs.Sheet.{field}
-use Rattle.refusal.specs.declared.Check.{Check}
-use Rattle.refusal.specs.declared.Check.the-variants.{Pass, Refuse}
-use Rattle.benchmark.specs.declared.Benchmarks.{Benchmarks}
-use Rattle.benchmark.specs.Benchmark.{benchmark, place}
+use Rattle.benchmark.specs.Benchmark.{benchmark}
 use Rattle.tariff.specs.declared.Tariff.{Tariff}
 use Rattle.tariff.specs.Tariff.{tariffOf}
 use Rattle.cap.specs.declared.Terms.{Terms}
 use Rattle.cap.specs.Cap.{maximum, charged, capped, monthMost}
-use Rattle.verdict.specs.Cells.{Cell, offered, terms, cell}
+use Rattle.verdict.specs.Cells.{offered, terms, cell}
 use Rattle.book.specs.declared.Book.{Book}
-use Rattle.queries.specs.declared.Told.{Told}
-use Rattle.queries.specs.declared.Told.the-variants.{Refused, Figure, Figures}
 use Rattle.book.specs.Calls.{Sheet, Record}
 use Rattle.book.specs.Checks.{figuresOf, outside}
 use Rattle.book.specs.Book.{bookReadings}
+use Rattle.queries.specs.declared.Told.{Told}
+use Rattle.queries.specs.declared.Told.the-variants as told
+
+-- "the whole number above and 12 × m": the maximum "kept as this whole number over 12 × m"
+pub record Fraction : Type 0 where
+  pub number : ℕ
+  pub denominator : ℕ
+
+-- "100 × 12 × m times the charge and times the maximum"
+pub record Quotation : Type 0 where
+  pub charge : ℕ
+  pub maximum : ℕ
+
+-- "A refusal returns its number"; what BENCHMARK, MAXIMUM and QUOTE give where they do not refuse
+pub data Telling : Type 0 where
+  refused : (number : ℕ) → Telling
+  benchmarkCharge : (mills : ℕ) → Telling
+  maximumCharge : Fraction → Telling
+  quotation : Quotation → Telling
+
+-- the code's answer in these words: "this paper's number and values for each of the enum's cases"
+abbrev pub tellingOf : Told → Telling
+tellingOf (told.Refused n) = refused n
+tellingOf (told.Benchmark mills) = benchmarkCharge mills
+tellingOf (told.Maximum n d) = maximumCharge (record { number = n; denominator = d })
+tellingOf (told.Quote c m) = quotation (record { charge = c; maximum = m })
 
 -- "13: an argument outside its range": region 0 to 13; arrangement, method and level 0 or 1
 abbrev pub inRanges : ℕ → ℕ → ℕ → Bool
 inRanges region arrangement method = ltb region 14 && ltb arrangement 2 && ltb method 2
 
 -- BENCHMARK (region, arrangement, method, level). 13, 10.
-abbrev pub benchmarkTold : (allowed : Bool) (sheet : Option Sheet) → ℕ → ℕ → ℕ → ℕ → Told
-benchmarkTold false sheet r a p l = Refused 13
-benchmarkTold true none r a p l = Refused 10
-benchmarkTold true (some s) r a p l = Figure (benchmark (s .fields) r a p l)
+abbrev pub benchmarkTold : (allowed : Bool) (sheet : Option Sheet) → ℕ → ℕ → ℕ → ℕ → Telling
+benchmarkTold false sheet r a p l = refused 13
+benchmarkTold true none r a p l = refused 10
+benchmarkTold true (some s) r a p l = benchmarkCharge (benchmark (s .fields) r a p l)
 
-unfoldable pub benchmarkOf : Book → ℕ → ℕ → ℕ → ℕ → Told
+unfoldable pub benchmarkOf : Book → ℕ → ℕ → ℕ → ℕ → Telling
 benchmarkOf b r a p l = benchmarkTold (inRanges r a p && ltb l 2) (bookReadings b .sheet) r a p l
 
 -- MAXIMUM (region, arrangement, method, total 0 to 120,000): "the same two; gives the whole number above and 12 × m"
@@ -49,12 +70,13 @@ termsOf s r a p =
       days = periodDays (s .period);
     }
 
-abbrev pub maximumTold : (allowed : Bool) (sheet : Option Sheet) → ℕ → ℕ → ℕ → ℕ → Told
-maximumTold false sheet r a p total = Refused 13
-maximumTold true none r a p total = Refused 10
-maximumTold true (some s) r a p total = Figures (maximum (termsOf s r a p) total) (12 * field (s .fields) (93 + a))
+abbrev pub maximumTold : (allowed : Bool) (sheet : Option Sheet) → ℕ → ℕ → ℕ → ℕ → Telling
+maximumTold false sheet r a p total = refused 13
+maximumTold true none r a p total = refused 10
+maximumTold true (some s) r a p total =
+    maximumCharge (record { number = maximum (termsOf s r a p) total; denominator = 12 * field (s .fields) (93 + a) })
 
-unfoldable pub maximumOf : Book → ℕ → ℕ → ℕ → ℕ → Told
+unfoldable pub maximumOf : Book → ℕ → ℕ → ℕ → ℕ → Telling
 maximumOf b r a p total = maximumTold (inRanges r a p && leb total 120000) (bookReadings b .sheet) r a p total
 
 -- "13: region or method not offered, the list not t long, or a month above 10,000"
@@ -68,34 +90,19 @@ abbrev pub quotable : Sheet → Tariff → ℕ → ℕ → List ℕ → Bool
 quotable s x region method months = cellAllowed x region method && monthsAllowed (s .period .months) months
 
 -- "Gives 100 × 12 × m times the charge and times the maximum."
-abbrev pub quoted : (allowed : Bool) → Sheet → Tariff → ℕ → ℕ → List ℕ → Told
-quoted false s x region method months = Refused 13
+abbrev pub quoted : (allowed : Bool) → Sheet → Tariff → ℕ → ℕ → List ℕ → Telling
+quoted false s x region method months = refused 13
 quoted true s x region method months =
-    let e = terms (figuresOf s) x (cell region method) in Figures (charged e x months) (capped e months)
+    let e = terms (figuresOf s) x (cell region method) in quotation (record { charge = charged e x months; maximum = capped e months })
 
 -- QUOTE (code, region, method, months). 6, 9, 10, 13. "Drafts can be quoted."
-abbrev pub quoteTold : (outside : Bool) (tariff : Option Record) (sheet : Option Sheet) → ℕ → ℕ → List ℕ → Told
-quoteTold true tariff sheet region method months = Refused 6
-quoteTold false none sheet region method months = Refused 9
-quoteTold false (some x) none region method months = Refused 10
+abbrev pub quoteTold : (outside : Bool) (tariff : Option Record) (sheet : Option Sheet) → ℕ → ℕ → List ℕ → Telling
+quoteTold true tariff sheet region method months = refused 6
+quoteTold false none sheet region method months = refused 9
+quoteTold false (some x) none region method months = refused 10
 quoteTold false (some x) (some s) region method months =
     quoted (quotable s (tariffOf x) region method months) s (tariffOf x) region method months
 
-unfoldable pub quoteOf : Book → ℕ → ℕ → ℕ → List ℕ → Told
+unfoldable pub quoteOf : Book → ℕ → ℕ → ℕ → List ℕ → Telling
 quoteOf b code region method months =
     quoteTold (outside code) (bookReadings b .tariff code) (bookReadings b .sheet) region method months
-
--- how the code reads them: a check's refusal, and the numbers of a cell from the figures in the book
-abbrev pub refusalTold : Check → Told
-refusalTold Pass = Refused 0
-refusalTold (Refuse n) = Refused n
-
-unfoldable pub termsIn : Benchmarks → ℕ → ℕ → ℕ → Terms
-termsIn f r a p =
-    record {
-      lower = getD (f .charges) (place r a p 0) 0;
-      upper = getD (f .charges) (place r a p 1) 0;
-      m = getD (f .levels) a 0;
-      months = f .months;
-      days = f .days;
-    }

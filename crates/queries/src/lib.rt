@@ -1,6 +1,6 @@
 // BENCHMARK, MAXIMUM and QUOTE: what the book tells and leaves as it is.
-// Promise: each answers what specs/Queries.antt says, on refused input too. They require document 01's own sentence on the book,
-// `Reachable`, since the figures are read from the book and are those of its sheet.
+// Promise: each answers what specs/Queries.antt says, on refused input too; `tellingOf` reads the answer in the paper's words. They
+// require document 01's own sentence on the book, `Reachable`, since the figures are read from the book and are those of its sheet.
 ghost use mathlib.Core.Path.{_≡_};
 ghost use mathlib.Core.Bool.{_&&_};
 ghost use Prim.Native.Nat.{_<_};
@@ -9,7 +9,8 @@ ghost use Rattle.refusal.specs.declared.Check.the-variants.{Pass};
 ghost use Rattle.benchmark.specs.Lawful.{Lawful};
 ghost use Rattle.cap.specs.Judged.{Fits};
 ghost use Rattle.book.specs.Book.{Reachable};
-ghost use Rattle.queries.specs.Queries.{inRanges, refusalTold, termsIn, cellAllowed, monthsAllowed, benchmarkOf, maximumOf, quoteOf};
+ghost use Rattle.queries.specs.Queries.{tellingOf, inRanges, cellAllowed, monthsAllowed, benchmarkOf, maximumOf, quoteOf};
+ghost use Rattle.queries.specs.Reading.{refusalTold, termsIn};
 use benchmark::Benchmarks;
 use book::Book;
 use cap::Terms;
@@ -17,11 +18,13 @@ use charge::Kwh;
 use refusal::Check;
 use tariff::Tariff;
 
-// A refusal, with its number; one figure; or two.
+// A refusal, with its number; or what each of the three calls gives. `Maximum` is its number over its denominator, 12 × m; both figures
+// of `Quote` are scaled by 1,200 × m.
 pub enum Told {
     Refused(u32),
-    Figure(u64),
-    Figures(u64, u64),
+    Benchmark(u64),
+    Maximum { number: u64, denominator: u64 },
+    Quote { charge: u64, maximum: u64 },
 }
 
 fn wide(x: u32) -> u64
@@ -76,7 +79,7 @@ fn terms_in(figures: Benchmarks, region: usize, arrangement: usize, method: usiz
 // BENCHMARK (region, arrangement, method, level). 13, 10.
 pub fn benchmark(b: Book, region: u32, arrangement: u32, method: u32, level: u32) -> Told
     requires { ⌜ Reachable b ⌝ }
-    ensures { λ r. ⌜ r ≡ benchmarkOf b region arrangement method level ⌝ }
+    ensures { λ r. ⌜ tellingOf r ≡ benchmarkOf b region arrangement method level ⌝ }
 {
     let ranged = ranges_check(region, arrangement, method, level < 2);
     let Check::Pass = ranged else {
@@ -92,13 +95,13 @@ pub fn benchmark(b: Book, region: u32, arrangement: u32, method: u32, level: u32
         + 4 * (arrangement as usize)
         + 2 * (method as usize)
         + (level as usize);
-    Told::Figure(wide(charges[at]))
+    Told::Benchmark(wide(charges[at]))
 }
 
 // MAXIMUM (region, arrangement, method, total). 13, 10. The whole number and 12 × m.
 pub fn maximum(b: Book, region: u32, arrangement: u32, method: u32, total: u32) -> Told
     requires { ⌜ Reachable b ⌝ }
-    ensures { λ r. ⌜ r ≡ maximumOf b region arrangement method total ⌝ }
+    ensures { λ r. ⌜ tellingOf r ≡ maximumOf b region arrangement method total ⌝ }
 {
     let ranged = ranges_check(region, arrangement, method, total <= 120_000);
     let Check::Pass = ranged else {
@@ -116,7 +119,12 @@ pub fn maximum(b: Book, region: u32, arrangement: u32, method: u32, total: u32) 
         method as usize,
     );
     let most = cap::maximum_of(e, Kwh(wide(total)));
-    Told::Figures(most.0, 12 * e.m)
+    let number = most.0;
+    let denominator = 12 * e.m;
+    Told::Maximum {
+        number,
+        denominator,
+    }
 }
 
 // Whether a tariff is offered in a region by a method.
@@ -164,7 +172,7 @@ fn quote_check(x: Tariff, region: u32, method: u32, t: u32, months: &[u32]) -> C
 // QUOTE (code, region, method, months). 6, 9, 10, 13. 1,200 × m times the charge and times the maximum.
 pub fn quote(b: Book, code: u32, region: u32, method: u32, months: &[u32]) -> Told
     requires { ⌜ Reachable b ⌝ }
-    ensures { λ r. ⌜ r ≡ quoteOf b code region method (now (months .entry)) ⌝ }
+    ensures { λ r. ⌜ tellingOf r ≡ quoteOf b code region method (now (months .entry)) ⌝ }
 {
     let inside = book::code_check(code);
     let Check::Pass = inside else {
@@ -190,5 +198,8 @@ pub fn quote(b: Book, code: u32, region: u32, method: u32, months: &[u32]) -> To
     let arrangement = verdict::arrangement_of(x);
     let e = terms_in(figures, region as usize, arrangement, method as usize);
     let sides = cap::sides_of(e, x, months);
-    Told::Figures(sides.charged, sides.capped)
+    Told::Quote {
+        charge: sides.charged,
+        maximum: sides.capped,
+    }
 }

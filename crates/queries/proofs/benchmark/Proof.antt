@@ -4,8 +4,7 @@ use mathlib.Core.Path.{_≡_, sym, _∙_, ap}
 use mathlib.Core.Bool.{true, _&&_}
 use native.Mathlib.Omega.{arith}
 use lib.Dec.{ltb}
-use Rattle.queries.specs.declared.Told.the-variants.{Figure}
-use Rattle.queries.specs.Queries.{inRanges}
+use Rattle.queries.specs.Queries.{benchmarkCharge, inRanges}
 use Rattle.book.proofs.InForce.{check-passed}
 use Rattle.queries.proofs.Asked.{hands-on, place-below, benchmark-outside, benchmark-no-sheet, benchmark-told}
 use borrow.Author.Needs.{needs}
@@ -83,7 +82,7 @@ returns-3 : tie.Need-returns-3
 returns-3 c =
     let d = c .before .before .before in
     let s = d .before .before in
-    ap Figure (c .wide .ensures)
+    ap benchmarkCharge (c .wide .ensures)
     ∙ benchmark-told _ _ _ _ _ (s .before .before .before .before .pre) (ranged (s .before)) (check-passed _ _ (sym (s .sheet-check .ensures) ∙ d .enum-told3 .given .1))
 
 pub benchmark-spec : {M : Type 1} → statement M

@@ -68,8 +68,8 @@ maximum-of-requires c κs =
     let x = g .before .before .before .args in
     (c .before .terms-in .ensures .1, rw (c .wide .ensures) (total-most (x .region) (x .arrangement) (x .method) (x .total) (ranged g)))
 
-mul-t15 : tie.Need-mul-t15
-mul-t15 c = search needs
+mul-denominator : tie.Need-mul-denominator
+mul-denominator c = search needs
 
 returns-3 : tie.Need-returns-3
 returns-3 c =
@@ -97,5 +97,5 @@ maximum-spec =
     terms-in-requires
     wide-requires
     maximum-of-requires
-    mul-t15
+    mul-denominator
     returns-3)

@@ -13,7 +13,8 @@ use Rattle.book.specs.Checks.{codeCheck}
 use Rattle.book.specs.Book.{beyond, placeOf}
 use Rattle.book.specs.Settling.{emptyCheck}
 use Rattle.book.proofs.Steps.{code-passed, index-below}
-use Rattle.queries.specs.Queries.{refusalTold, cellAllowed, monthsAllowed}
+use Rattle.queries.specs.Queries.{tellingOf, cellAllowed, monthsAllowed}
+use Rattle.queries.specs.Reading.{refusalTold}
 use Rattle.book.proofs.InForce.{check-passed, figures-lawful}
 use Rattle.queries.proofs.Asked.{hands-on}
 use Rattle.queries.proofs.Listed.{months-for}
@@ -86,7 +87,7 @@ refused-requires c κs = search needs
 returns : tie.Need-returns
 returns c =
     let told = c .before .enum-told2 .given .1 in
-    c .refused .ensures ∙ ap refusalTold told ∙ quote-outside _ _ _ _ _ _ (sym (c .before .before .before .code-check .ensures) ∙ told)
+    ap tellingOf (c .refused .ensures ∙ ap refusalTold told) ∙ quote-outside _ _ _ _ _ _ (sym (c .before .before .before .code-check .ensures) ∙ told)
 
 sub-at : tie.Need-sub-at
 sub-at c = from-1 c
@@ -116,7 +117,7 @@ returns-2 : tie.Need-returns-2
 returns-2 c =
     let w = c .before .before .before .before .before .before in
     let told = c .before .enum-told4 .given .1 in
-    c .refused2 .ensures ∙ ap refusalTold told
+    ap tellingOf (c .refused2 .ensures ∙ ap refusalTold told)
     ∙ quote-empty _ _ _ _ _ _ (inside w) (at-code w) _ (sym (c .before .before .before .empty-check .ensures) ∙ told)
 
 sheet-check-requires : tie.Need-sheet-check-requires

@@ -1,7 +1,7 @@
 -- `queries::refused` meets its contract: a check that refuses has its number in the answer.
 -- Assumes nothing.
 use mathlib.Core.Path.{sym, ap}
-use Rattle.queries.specs.Queries.{refusalTold}
+use Rattle.queries.specs.Reading.{refusalTold}
 use borrow.Author.Needs.{needs}
 use Rattle.queries.proofs.refused.Statement.{statement}
 use Rattle.queries.proofs.refused.Tie as tie

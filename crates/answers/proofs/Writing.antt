@@ -7,7 +7,7 @@ use native.Mathlib.Nat.{add-zero, add-suc, suc-add}
 use native.Mathlib.Numerals.{add-one}
 use native.Mathlib.Omega.{arith}
 use lib.ListN.{length, getD, set, take, length-append}
-use lib.Seq.{sets, length-sets, take-suc, length-take-le, ext-getD}
+use lib.Seq.{sets, length-sets, take-suc, length-take-le}
 use Rattle.laws.specs.Notions.{tabulate}
 use Rattle.laws.proofs.Lists.{is-table}
 use Rattle.request.specs.Protocol.{bytesOf}

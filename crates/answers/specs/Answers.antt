@@ -1,12 +1,13 @@
 -- The desk's answer lines, word for word, each with its line feed.
 -- Assumes nothing.
 use mathlib.Core.List.{List, [], _∷_, _++_}
+use mathlib.Core.Option.{Option, none, some}
 use Prim.Native.Nat.{ℕ}
 use Prim.Native.String.{String}
 use lib.IntN.{natAbs}
-use Rattle.book.specs.Calls.{Answer, accepted, opened, refused, over}
-use Rattle.queries.specs.declared.Told.{Told}
-use Rattle.queries.specs.declared.Told.the-variants.{Refused, Figure, Figures}
+use Rattle.book.specs.Calls.{Answer, accepted, opened, refused, over, refusalNumber}
+use Rattle.queries.specs.Queries.{Telling, benchmarkCharge, maximumCharge, quotation}
+use Rattle.queries.specs.Queries as telling
 use Rattle.request.specs.declared.Word.{Word}
 use Rattle.request.specs.declared.Word.the-variants.{Set, Put, Open, Close, Drop, Benchmark, Maximum, Quote}
 use Rattle.request.specs.declared.Request.{Request}
@@ -23,18 +24,27 @@ spaced (n ∷ ns) = bytesOf " " ++ decimal n ++ spaced ns
 unfoldable pub line : List ℕ → List ℕ → List ℕ
 line word numbers = word ++ spaced numbers ++ bytesOf "\n"
 
--- set, put, open, close, drop: ok | ok CELLS | refused N | refused 11 REGION METHOD EXCESS M1 .. Mt
-abbrev pub answerText : Answer → List ℕ
-answerText accepted = line (bytesOf "ok") []
-answerText (opened cells) = line (bytesOf "ok") (cells ∷ [])
-answerText (refused n) = line (bytesOf "refused") (n ∷ [])
-answerText (over c months excess) = line (bytesOf "refused") (11 ∷ c .region ∷ c .method ∷ natAbs excess ∷ months)
+-- ok NUMBERS, or refused N NUMBERS where an answer is a refusal
+abbrev pub okOrRefused : (refusal : Option ℕ) (numbers : List ℕ) → List ℕ
+okOrRefused none numbers = line (bytesOf "ok") numbers
+okOrRefused (some n) numbers = line (bytesOf "refused") (n ∷ numbers)
 
--- benchmark: ok VALUE | refused N; maximum, quote: ok NUMBER DENOMINATOR | ok CHARGE MAXIMUM | refused N
-abbrev pub toldText : Told → List ℕ
-toldText (Refused n) = line (bytesOf "refused") (n ∷ [])
-toldText (Figure x) = line (bytesOf "ok") (x ∷ [])
-toldText (Figures x y) = line (bytesOf "ok") (x ∷ y ∷ [])
+-- set, put, open, close, drop: ok | ok CELLS | refused N | refused 11 REGION METHOD EXCESS M1 .. Mt
+abbrev pub carried : Answer → List ℕ
+carried accepted = []
+carried (opened cells) = cells ∷ []
+carried (refused n) = []
+carried (over c months excess) = c .region ∷ c .method ∷ natAbs excess ∷ months
+
+abbrev pub answerText : Answer → List ℕ
+answerText a = okOrRefused (refusalNumber a) (carried a)
+
+-- benchmark: ok VALUE | refused N; maximum: ok NUMBER DENOMINATOR | refused N; quote: ok CHARGE MAXIMUM | refused N
+abbrev pub toldText : Telling → List ℕ
+toldText (telling.refused n) = okOrRefused (some n) []
+toldText (benchmarkCharge mills) = okOrRefused none (mills ∷ [])
+toldText (maximumCharge f) = okOrRefused none (f .number ∷ f .denominator ∷ [])
+toldText (quotation q) = okOrRefused none (q .charge ∷ q .maximum ∷ [])
 
 -- error line L: WHAT
 unfoldable pub errorText : ℕ → List ℕ → List ℕ

@@ -4,11 +4,15 @@
 ghost use mathlib.Core.Path.{_≡_};
 ghost use mathlib.Core.List.{[], _∷_, _++_};
 ghost use Prim.Native.Nat.{_+_, _*_, _≤_};
+ghost use lib.IntN.{pos};
 ghost use lib.ListN.{length, take};
+ghost use Rattle.verdict.specs.Cells.{cell};
+ghost use Rattle.book.specs.Calls.{over};
 ghost use Rattle.book.specs.Promises.{answerOf};
+ghost use Rattle.queries.specs.Queries.{tellingOf};
 ghost use Rattle.request.specs.Protocol.{bytesOf};
 ghost use Rattle.answers.specs.Writing.{decimal, Written};
-ghost use Rattle.answers.specs.Answers.{spaced, line, answerText, toldText, errorText, tooLong, problemText};
+ghost use Rattle.answers.specs.Answers.{spaced, line, answerText, toldText, tooLong, problemText};
 use book::Reply;
 use queries::Told;
 use request::Request;
@@ -84,6 +88,14 @@ fn put_ok(out: &mut [u8], at: usize, x: u64) -> usize
     put_line(out, at, b"ok", &[x])
 }
 
+// ok and two numbers
+fn put_two(out: &mut [u8], at: usize, x: u64, y: u64) -> usize
+    requires { ⌜ at + 50 ≤ length (now out) ⌝ }
+    ensures { λ r. ⌜ Written (now (out .entry)) at (line (bytesOf "ok") (x ∷ y ∷ [])) r (now (out .exit)) ⌝ }
+{
+    put_line(out, at, b"ok", &[x, y])
+}
+
 // refused and its number
 fn put_refused(out: &mut [u8], at: usize, n: u32) -> usize
     requires { ⌜ at + 50 ≤ length (now out) ⌝ }
@@ -127,7 +139,7 @@ fn put_over(
     months: [u32; 12],
 ) -> usize
     requires { ⌜ at + 344 ≤ length (now out) ⌝ }
-    ensures { λ r. ⌜ Written (now (out .entry)) at (line (bytesOf "refused") (11 ∷ region ∷ method ∷ excess ∷ take t months)) r (now (out .exit)) ⌝ }
+    ensures { λ r. ⌜ Written (now (out .entry)) at (answerText (over (cell region method) (take t months) (pos excess))) r (now (out .exit)) ⌝ }
 {
     let numbers = over_numbers(region, method, excess, months);
     if t < 12 {
@@ -155,12 +167,16 @@ pub fn put_reply(out: &mut [u8], at: usize, reply: Reply, months: [u32; 12]) -> 
 // The answer of BENCHMARK, MAXIMUM or QUOTE.
 pub fn put_told(out: &mut [u8], at: usize, told: Told) -> usize
     requires { ⌜ at + 50 ≤ length (now out) ⌝ }
-    ensures { λ r. ⌜ Written (now (out .entry)) at (toldText told) r (now (out .exit)) ⌝ }
+    ensures { λ r. ⌜ Written (now (out .entry)) at (toldText (tellingOf told)) r (now (out .exit)) ⌝ }
 {
     match told {
         Told::Refused(n) => put_refused(out, at, n),
-        Told::Figure(x) => put_ok(out, at, x),
-        Told::Figures(x, y) => put_line(out, at, b"ok", &[x, y]),
+        Told::Benchmark(mills) => put_ok(out, at, mills),
+        Told::Maximum {
+            number,
+            denominator,
+        } => put_two(out, at, number, denominator),
+        Told::Quote { charge, maximum } => put_two(out, at, charge, maximum),
     }
 }
 

@@ -1,6 +1,5 @@
 -- `answers::put_told` meets its contract, answer by answer.
 -- Assumes nothing.
-use mathlib.Core.Path.{refl}
 use native.Mathlib.Omega.{arith}
 use Rattle.answers.proofs.put_told.Statement.{statement}
 use Rattle.answers.proofs.put_told.Tie as tie
@@ -20,14 +19,14 @@ put-ok-requires c κs = omega arith
 enum-known-told-3 : tie.Need-enum-known-told-3
 enum-known-told-3 c = c .match .keys3
 
-slice-aggregate-put-line : tie.Need-slice-aggregate-put-line
-slice-aggregate-put-line c = refl
+put-two-requires : tie.Need-put-two-requires
+put-two-requires c κs = omega arith
 
-slice-aggregate-put-line-2 : tie.Need-slice-aggregate-put-line-2
-slice-aggregate-put-line-2 c = refl
+enum-known-told-4 : tie.Need-enum-known-told-4
+enum-known-told-4 c = c .match .keys4
 
-put-line-requires : tie.Need-put-line-requires
-put-line-requires c κs = omega arith
+put-two-requires-2 : tie.Need-put-two-requires-2
+put-two-requires-2 c κs = omega arith
 
 same-length : tie.Need-same-length
 same-length c = c .before .before .put-refused .kept .0
@@ -42,10 +41,16 @@ returns-2 : tie.Need-returns-2
 returns-2 c = rw (c .before .before .before .before .before .told2 .given .1) (c .before .before .put-ok .ensures)
 
 same-length-3 : tie.Need-same-length-3
-same-length-3 c = c .before .before .put-line .kept .0
+same-length-3 c = c .before .before .put-two .kept .0
 
 returns-3 : tie.Need-returns-3
-returns-3 c = rw (c .before .before .before .before .before .before .before .told3 .given .1) (c .before .before .put-line .ensures)
+returns-3 c = rw (c .before .before .before .before .before .told3 .given .1) (c .before .before .put-two .ensures)
+
+same-length-4 : tie.Need-same-length-4
+same-length-4 c = c .before .before .put-two2 .kept .0
+
+returns-4 : tie.Need-returns-4
+returns-4 c = rw (c .before .before .before .before .before .told4 .given .1) (c .before .before .put-two2 .ensures)
 
 pub put-told-spec : {M : Type 1} → statement M
 put-told-spec =
@@ -56,12 +61,14 @@ put-told-spec =
     enum-known-told-2
     put-ok-requires
     enum-known-told-3
-    slice-aggregate-put-line
-    slice-aggregate-put-line-2
-    put-line-requires
+    put-two-requires
+    enum-known-told-4
+    put-two-requires-2
     same-length
     returns
     same-length-2
     returns-2
     same-length-3
-    returns-3)
+    returns-3
+    same-length-4
+    returns-4)

@@ -14,7 +14,7 @@ use Rattle.book.specs.Calls as calls
 use Rattle.book.specs.Book.{Reachable}
 use Rattle.book.specs.Promises.{answerOf, Does}
 use Rattle.book.proofs.Reached.{does-reachable}
-use Rattle.queries.specs.declared.Told.{Told}
+use Rattle.queries.specs.Queries.{Telling}
 use Rattle.lines.specs.Words.{withoutReturn}
 use Rattle.request.specs.declared.Word.{Word}
 use Rattle.request.specs.declared.Word.the-variants as word
@@ -80,7 +80,7 @@ module _ (b : Book) (reach : Reachable b) (l : ℕ) (line numbers : List ℕ) (a
   says-step q w n s asked call kind ready same =
       (line-is q w n (Steps s) asked call kind ready, ready .within, count-of w (Steps s) n kind (ready .right), same)
 
-  pub says-told : (q : Request) (w : Word) (n : ℕ) (t : Query) (told : Told) (next : ℕ) → q ≡ requestOf line → q ≡ Call w n → kindOf w ≡ Tells t → Ready w n line numbers
+  pub says-told : (q : Request) (w : Word) (n : ℕ) (t : Query) (told : Telling) (next : ℕ) → q ≡ requestOf line → q ≡ Call w n → kindOf w ≡ Tells t → Ready w n line numbers
       → told ≡ toldOf b t (take n numbers) → Written before at (toldText told) next after
       → Says (Answer next) b (requestLine b l (requestOf line) (numbersOf line)) at before after numbers
   says-told q w n t told next asked call kind ready e written =

@@ -10,8 +10,7 @@ use Rattle.book.specs.declared.Book.{Book}
 use Rattle.book.specs.Calls as call
 use Rattle.book.specs.Book.{step}
 use Rattle.book.specs.Calls.{sheetAt}
-use Rattle.queries.specs.declared.Told.{Told}
-use Rattle.queries.specs.Queries.{benchmarkOf, maximumOf, quoteOf}
+use Rattle.queries.specs.Queries.{Telling, benchmarkOf, maximumOf, quoteOf}
 use Rattle.lines.specs.Words.{withoutReturn}
 use Rattle.request.specs.declared.Word.{Word}
 use Rattle.request.specs.declared.Word.the-variants as word
@@ -50,7 +49,7 @@ stepOf Close ns = call.CLOSE (getD ns 0 0)
 stepOf Drop ns = call.DROP (getD ns 0 0)
 
 -- what the book tells to these numbers
-abbrev pub toldOf : Book → Query → List ℕ → Told
+abbrev pub toldOf : Book → Query → List ℕ → Telling
 toldOf b Benchmark ns = benchmarkOf b (getD ns 0 0) (getD ns 1 0) (getD ns 2 0) (getD ns 3 0)
 toldOf b Maximum ns = maximumOf b (getD ns 0 0) (getD ns 1 0) (getD ns 2 0) (getD ns 3 0)
 toldOf b Quote ns = quoteOf b (getD ns 0 0) (getD ns 1 0) (getD ns 2 0) (drop 3 ns)
@@ -63,7 +62,7 @@ pub record Line : Type 0 where
 abbrev pub stepLine : Book → call.Call → Line
 stepLine b c = record { book = step b c .book; text = answerText (step b c .answer) }
 
-abbrev pub toldLine : Book → Told → Line
+abbrev pub toldLine : Book → Telling → Line
 toldLine b t = record { book = b; text = toldText t }
 
 abbrev pub callLine : Book → Kind → List ℕ → Line

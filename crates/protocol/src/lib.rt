@@ -7,6 +7,7 @@ ghost use Prim.Native.Nat.{_+_, _≤_};
 ghost use lib.ListN.{length};
 ghost use Rattle.book.specs.Book.{Reachable};
 ghost use Rattle.book.specs.Promises.{Does};
+ghost use Rattle.queries.specs.Queries.{tellingOf};
 ghost use Rattle.request.specs.Protocol.{requestOf, numbersOf};
 ghost use Rattle.protocol.specs.Lines.{kindOf, stepOf, toldOf, stepLine, requestLine, between, lineAt};
 ghost use Rattle.protocol.specs.Said.{StepCount, QueryCount, Answered, Says};
@@ -77,7 +78,7 @@ fn stepped(b: Book, step: Step, numbers: &[u32]) -> Done
 // What the book tells.
 fn told(b: Book, query: Query, numbers: &[u32]) -> Told
     requires { ⌜ Reachable b × QueryCount query (length (now numbers)) ⌝ }
-    ensures { λ r. ⌜ r ≡ toldOf b query (now (numbers .entry)) ⌝ }
+    ensures { λ r. ⌜ tellingOf r ≡ toldOf b query (now (numbers .entry)) ⌝ }
 {
     match query {
         Query::Benchmark => queries::benchmark(b, numbers[0], numbers[1], numbers[2], numbers[3]),

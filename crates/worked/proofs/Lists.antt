@@ -23,8 +23,7 @@ use Rattle.sheet.specs.Sheet.{round, indexed}
 use Rattle.charge.specs.Charge.{arrangement, tierCharge, charge}
 use Rattle.cap.specs.Cap.{maximum, charged, capped}
 use Rattle.book.specs.Book.{fresh, bookAfter, step, changed}
-use Rattle.queries.specs.declared.Told.the-variants.{Figures}
-use Rattle.queries.specs.Queries.{quoteOf, cellAllowed, monthsAllowed}
+use Rattle.queries.specs.Queries.{quotation, quoteOf, cellAllowed, monthsAllowed}
 use Rattle.reference.specs.SheetS.{sheetS, times}
 use Rattle.reference.specs.Starred.{firstOther}
 use Rattle.reference.proofs.Table.{starred}
@@ -95,7 +94,8 @@ two-calls : bookAfter fresh (SET quarter ∷ PUT 7 steep ∷ []) ≡ changed (ch
 unfolding bookAfter step
 two-calls = rw (starred .accepted, starred .records .1)
 
-quote-told : quoteOf (changed (changed fresh (SET quarter)) (PUT 7 steep)) 7 0 1 (300 ∷ 0 ∷ 0 ∷ []) ≡ Figures 24624000000000 27970470000000
+quote-told : quoteOf (changed (changed fresh (SET quarter)) (PUT 7 steep)) 7 0 1 (300 ∷ 0 ∷ 0 ∷ [])
+    ≡ quotation (record { charge = 24624000000000; maximum = 27970470000000 })
 unfolding quoteOf cellAllowed monthsAllowed every offered bit terms arrangement tierCharge charge maximum charged capped sum total benchmarksOf figures figure tabulate tabulateFrom benchmark wc pc oc nc paenc headroom panc indexed round sheetS times periodDays monthBegins lengthAt monthLength leapYear
 quote-told = refl
 

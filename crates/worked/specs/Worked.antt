@@ -7,8 +7,7 @@ use lib.IntN.{pos}
 use Rattle.calendar.specs.declared.Period.{Period}
 use Rattle.book.specs.Calls.{Sheet, Record, Call, SET, PUT, OPEN, CLOSE, DROP, Answer, accepted, opened, refused, over}
 use Rattle.book.specs.Book.{fresh, bookAfter}
-use Rattle.queries.specs.declared.Told.the-variants.{Figures}
-use Rattle.queries.specs.Queries.{quoteOf}
+use Rattle.queries.specs.Queries.{quotation, quoteOf}
 use Rattle.reference.specs.SheetS.{sheetS, periodS, flat, tiered}
 use Rattle.reference.specs.Starred.{firstOther}
 use Rattle.history.specs.History.{answersAfter}
@@ -59,8 +58,9 @@ pub record Worked : Type 0 where
   -- a tariff put over a draft; before the first sheet OPEN is 10, at an empty place 9
   pub put-over : answersTo (PUT 1 high ∷ OPEN 1 ∷ OPEN 2 ∷ SET quarter ∷ OPEN 1 ∷ PUT 1 low ∷ OPEN 1 ∷ [])
       ≡ accepted ∷ refused 10 ∷ refused 9 ∷ accepted ∷ over firstOther (0 ∷ 0 ∷ 0 ∷ []) (pos 133200000) ∷ accepted ∷ opened 28 ∷ []
-  -- QUOTE of the tiered tariff for 300 kWh in one month: its charge, the first figure, is below the maximum, the second
-  pub quoted : quoteOf (bookAfter fresh (SET quarter ∷ PUT 7 steep ∷ [])) 7 0 1 (300 ∷ 0 ∷ 0 ∷ []) ≡ Figures 24624000000000 27970470000000
+  -- QUOTE of the tiered tariff for 300 kWh in one month: its charge is below the maximum
+  pub quoted : quoteOf (bookAfter fresh (SET quarter ∷ PUT 7 steep ∷ [])) 7 0 1 (300 ∷ 0 ∷ 0 ∷ [])
+      ≡ quotation (record { charge = 24624000000000; maximum = 27970470000000 })
   -- the tiered tariff, refused at 100, 100, 100; then dropped, and the place is empty
   pub tiers : answersTo (SET quarter ∷ PUT 7 steep ∷ OPEN 7 ∷ DROP 7 ∷ OPEN 7 ∷ [])
       ≡ accepted ∷ accepted ∷ over firstOther (100 ∷ 100 ∷ 100 ∷ []) (pos 253530000000) ∷ accepted ∷ refused 9 ∷ []

@@ -150,8 +150,12 @@ fn fold_reply(sum: u64, reply: Reply) -> u64 {
 fn fold_told(sum: u64, told: Told) -> u64 {
     match told {
         Told::Refused(n) => fold(sum, n as u64),
-        Told::Figure(x) => fold(sum, x),
-        Told::Figures(x, y) => fold(fold(sum, x), y),
+        Told::Benchmark(mills) => fold(sum, mills),
+        Told::Maximum {
+            number,
+            denominator,
+        } => fold(fold(sum, number), denominator),
+        Told::Quote { charge, maximum } => fold(fold(sum, charge), maximum),
     }
 }
 

@@ -1,9 +1,10 @@
 -- How a list of calls is written in numbers, and the number of an answer.
 -- Assumes nothing.
 use mathlib.Core.List.{List, [], _∷_, _++_}
+use mathlib.Core.Option.{Option·getD}
 use Prim.Native.Nat.{ℕ, _+_}
 use lib.ListN.{length}
-use Rattle.book.specs.Calls.{Sheet, Call, SET, PUT, OPEN, CLOSE, DROP, Answer, accepted, opened, refused, over}
+use Rattle.book.specs.Calls.{Call, SET, PUT, OPEN, CLOSE, DROP, Answer, accepted, opened, refused, over, refusalNumber}
 
 -- SET: 0, year, month, t, the count of fields and the fields. PUT: 1, code, the count of numbers and the numbers. OPEN: 2 and the
 -- code. CLOSE: 3 and the code. DROP: 4 and the code.
@@ -18,9 +19,13 @@ abbrev pub encode : List Call → List ℕ
 encode [] = []
 encode (c ∷ cs) = encodeOne c ++ encode cs
 
--- accepted is 0, a refusal its number, and opened 100 and the number of cells
+-- where no check refused: opened is 100 and the number of cells, accepted 0
+abbrev pub acceptedNumber : Answer → ℕ
+acceptedNumber accepted = 0
+acceptedNumber (opened n) = 100 + n
+acceptedNumber (refused n) = 0
+acceptedNumber (over c months e) = 0
+
+-- and a refusal is its number
 abbrev pub numberOf : Answer → ℕ
-numberOf accepted = 0
-numberOf (opened n) = 100 + n
-numberOf (refused n) = n
-numberOf (over c months e) = 11
+numberOf a = Option·getD (refusalNumber a) (acceptedNumber a)

@@ -1,3 +1,4 @@
 pub mod October
 pub mod Lists
 pub mod Refused
+pub mod Queried

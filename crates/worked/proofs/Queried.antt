@@ -1,0 +1,54 @@
+-- What the queries give holds: the calls before them are accepted, and the rest is computed.
+-- Assumes nothing.
+use mathlib.Core.Path.{_≡_, refl, sym, subst₂}
+use Rattle.laws.specs.Notions.{every, sum, total, tabulate, tabulateFrom}
+use Rattle.calendar.specs.Calendar.{periodDays, monthBegins, lengthAt, monthLength, leapYear}
+use Rattle.sheet.specs.Sheet.{round, indexed}
+use Rattle.benchmark.specs.Benchmark.{benchmark, wc, pc, oc, nc, paenc, headroom, panc, figure, figures, benchmarksOf}
+use Rattle.charge.specs.Charge.{arrangement, tierCharge, weighted, charge}
+use Rattle.cap.specs.Cap.{maximum, charged, capped}
+use Rattle.verdict.specs.Cells.{bit, offered, terms}
+use Rattle.book.specs.declared.Book.{Book}
+use Rattle.book.specs.Calls.{sheetAt, SET, PUT}
+use Rattle.book.specs.Book.{fresh, bookAfter, step, changed}
+use Rattle.queries.specs.Queries.{benchmarkOf, maximumOf, quoteOf, cellAllowed, monthsAllowed}
+use Rattle.unlike.specs.SheetU.{networks, sheetU, periodU, threeTiers, threeRegisters}
+use Rattle.unlike.proofs.Table.{unlike}
+use Rattle.worked.specs.Queried.{twoTariffs, noSheet, Queried}
+
+-- the calls are accepted
+abbrev two : Book
+two = changed (changed (changed fresh (SET (sheetAt sheetU periodU))) (PUT 1 (threeTiers 27000))) (PUT 4 (threeRegisters 15000))
+
+abbrev bare : Book
+bare = changed fresh (PUT 4 (threeRegisters 15000))
+
+after-three : twoTariffs ≡ two
+unfolding bookAfter step
+after-three = rw (unlike .accepted, unlike .records .0, unlike .records .2)
+
+after-one : noSheet ≡ bare
+unfolding bookAfter step
+after-one = rw (unlike .records .2)
+
+computed : Queried two bare
+unfolding benchmarkOf maximumOf quoteOf cellAllowed monthsAllowed every offered bit terms arrangement tierCharge weighted charge maximum charged capped sum total benchmarksOf figures figure tabulate tabulateFrom benchmark wc pc oc nc paenc headroom panc indexed round sheetU networks periodDays monthBegins lengthAt monthLength leapYear
+computed =
+    record {
+      benchmark-refused = (refl, refl);
+      maximum-refused = (refl, refl);
+      benchmark-given = refl;
+      maximum-given = refl;
+      quote-6 = refl;
+      quote-9 = refl;
+      quote-10 = refl;
+      quote-13-region = (refl, refl);
+      quote-13-method = (refl, refl);
+      quote-13-months = (refl, refl);
+      quoted-tiers = refl;
+      quoted-registers = refl;
+      quoted-most = refl;
+    }
+
+pub queried : Queried twoTariffs noSheet
+queried = subst₂ Queried (sym after-three) (sym after-one) computed

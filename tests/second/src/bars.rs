@@ -262,7 +262,10 @@ pub const BARS: &[(&str, u64)] = &[
     ("writes of lines and the half of another", 230),
     ("writes of several lines", 590),
     // The fuzz of bytes.
-    ("fuzz: CR and LF cut at such an offset", 99),
+    (
+        "fuzz: a carriage return and its line feed cut at such an offset",
+        99,
+    ),
     ("fuzz: cases", 4_000),
     ("fuzz: inputs of any bytes", 300),
     ("fuzz: inputs of spoilt scripts", 280),

@@ -46,8 +46,9 @@ struct Conversation {
     random: Random,
     running: Running,
     desk: Desk,
-    /// Line feeds sent.
-    feeds: u64,
+    /// The line sent last, whole or begun, and its number.
+    line: Vec<u8>,
+    number: u64,
     tally: Tally,
 }
 
@@ -57,7 +58,8 @@ pub fn converse(program: &Program, seed: u64, calls: usize) -> Result<Tally, Str
         random: Random::new(seed),
         running: program.start()?,
         desk: Desk::new(),
-        feeds: 0,
+        line: Vec::new(),
+        number: 0,
         tally: Tally::default(),
     };
     let script = script(seed, calls);
@@ -89,34 +91,53 @@ impl Conversation {
     /// Sends a piece and waits for what is owed after it. True if something was owed.
     fn say(&mut self, piece: &[u8]) -> Result<bool, String> {
         let mut owed = Vec::new();
-        self.desk.feed(piece, &mut owed);
+        // The lines that are owed an answer, by their names.
+        let mut lines = Vec::new();
+        for part in piece.split_inclusive(|&byte| byte == b'\n') {
+            if self.line.is_empty() || self.line.ends_with(b"\n") {
+                self.line.clear();
+                self.number += 1;
+            }
+            self.line.extend_from_slice(part);
+            let before = owed.len();
+            self.desk.feed(part, &mut owed);
+            if owed.len() > before {
+                lines.push(self.name());
+            }
+        }
         self.running.send(piece.to_vec());
-        let first = self.feeds + 1;
-        self.feeds += piece.iter().filter(|&&byte| byte == b'\n').count() as u64;
-        let outcome = if owed.is_empty() {
-            self.pause()
+        if owed.is_empty() {
+            self.pause()?;
         } else {
-            self.answers(&owed)
-        };
-        outcome.map_err(|problem| {
-            let end = if piece.ends_with(b"\n") {
-                ""
-            } else {
-                " (without a line feed yet)"
-            };
-            format!("line {first}: {}{end}\n{problem}", text(piece))
-        })?;
+            self.answers(&owed, &lines)?;
+            self.silence(Duration::ZERO)?;
+        }
         Ok(!owed.is_empty())
     }
 
-    fn answers(&mut self, owed: &[u8]) -> Result<(), String> {
+    /// What the line sent last is called in a report.
+    fn name(&self) -> String {
+        let end = if self.line.ends_with(b"\n") {
+            ""
+        } else {
+            " (without its line feed)"
+        };
+        format!("line {}: {}{end}", self.number, text(&self.line))
+    }
+
+    fn answers(&mut self, owed: &[u8], lines: &[String]) -> Result<(), String> {
         self.running.answers(owed).map_err(|difference| {
             format!(
-                "  expected: {}\n  answered: {}",
-                difference.expected, difference.answered
+                "{}\n  expected: {}\n  answered: {}",
+                lines[difference.after], difference.expected, difference.answered
             )
-        })?;
-        self.running.silence(Duration::ZERO)
+        })
+    }
+
+    fn silence(&mut self, pause: Duration) -> Result<(), String> {
+        self.running
+            .silence(pause)
+            .map_err(|problem| format!("{}\n  {problem}", self.name()))
     }
 
     /// Waits where nothing is owed.
@@ -127,7 +148,7 @@ impl Conversation {
         } else {
             PAUSE
         };
-        self.running.silence(pause)
+        self.silence(pause)
     }
 
     fn whole_line(&mut self, line: &[u8]) -> Result<usize, String> {
@@ -223,8 +244,7 @@ impl Conversation {
         together.extend_from_slice(&last[..cut]);
         let answered = self.say(&together)?;
         // Nothing for the beginning, however long it stands there.
-        self.pause()
-            .map_err(|problem| format!("after {}\n{problem}", text(&together)))?;
+        self.pause()?;
         let then = self.say(&last[cut..])?;
         if answered && then {
             self.tally.one("writes of lines and the half of another");
@@ -260,27 +280,16 @@ impl Conversation {
         self.desk.finish(&mut owed);
         self.running.close();
         if !owed.is_empty() {
-            self.answers_at_the_end(&owed, &line)?;
+            self.answers(&owed, &[self.name()])?;
         }
         self.tally.one(if owed.is_empty() {
             "silent last lines"
         } else {
             "last lines without a line feed, answered at the end"
         });
-        self.running.end()?;
         self.tally.one("conversations");
+        self.running.end()?;
         Ok(self.tally)
-    }
-
-    fn answers_at_the_end(&mut self, owed: &[u8], line: &[u8]) -> Result<(), String> {
-        self.running.answers(owed).map_err(|difference| {
-            format!(
-                "last line, without a line feed: {}\n  expected: {}\n  answered: {}",
-                text(line),
-                difference.expected,
-                difference.answered
-            )
-        })
     }
 }
 

@@ -351,7 +351,9 @@ impl Case<'_> {
                 Some([b'0'..=b'9', b'0'..=b'9']) => {
                     self.tally.one("fuzz: numbers cut at such an offset")
                 }
-                Some(b"\r\n") => self.tally.one("fuzz: CR and LF cut at such an offset"),
+                Some(b"\r\n") => self
+                    .tally
+                    .one("fuzz: a carriage return and its line feed cut at such an offset"),
                 _ => {}
             }
             self.tell_line();

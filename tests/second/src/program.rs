@@ -132,11 +132,14 @@ impl Running {
     pub fn answers(&mut self, expected: &[u8]) -> Result<(), Difference> {
         let end = Instant::now() + self.limit;
         let mut problem = "no answer in time";
+        // How many bytes have been found the same.
+        let mut same = 0;
         loop {
             let length = expected.len().min(self.unread.len());
-            if self.unread[..length] != expected[..length] {
+            if self.unread[same..length] != expected[same..length] {
                 return Err(self.difference(expected, "a part of it"));
             }
+            same = length;
             if length == expected.len() {
                 self.unread.drain(..length);
                 return Ok(());
@@ -226,12 +229,11 @@ impl Drop for Running {
     }
 }
 
-/// Bytes as text, shortened in the middle if they are many.
+/// Bytes as text, those that cannot be shown escaped; shortened if they are many.
 pub fn text(bytes: &[u8]) -> String {
     let bytes = bytes.strip_suffix(b"\n").unwrap_or(bytes);
     if bytes.len() > 2_000 {
-        let start = String::from_utf8_lossy(&bytes[..200]);
-        return format!("{start} .. ({} bytes)", bytes.len());
+        return format!("{} .. ({} bytes)", bytes[..200].escape_ascii(), bytes.len());
     }
-    String::from_utf8_lossy(bytes).into_owned()
+    bytes.escape_ascii().to_string()
 }

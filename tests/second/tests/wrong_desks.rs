@@ -65,7 +65,7 @@ fn conversations_find_answers_at_the_wrong_time() {
             ("silent lines are answered", "answered too early"),
             (
                 "the last line is swallowed",
-                "last line, without a line feed",
+                "(without its line feed)\n  expected:",
             ),
             ("it does not leave", "goes on after the end of its input"),
             ("it leaves with 3", "left with exit status: 3"),

@@ -24,18 +24,19 @@ spaced (n ∷ ns) = bytesOf " " ++ decimal n ++ spaced ns
 unfoldable pub line : List ℕ → List ℕ → List ℕ
 line word numbers = word ++ spaced numbers ++ bytesOf "\n"
 
--- ok NUMBERS, or refused N NUMBERS where an answer is a refusal
+-- ok and its numbers; or refused, the refusal's number and those that it carries
 abbrev pub okOrRefused : (refusal : Option ℕ) (numbers : List ℕ) → List ℕ
 okOrRefused none numbers = line (bytesOf "ok") numbers
 okOrRefused (some n) numbers = line (bytesOf "refused") (n ∷ numbers)
 
--- set, put, open, close, drop: ok | ok CELLS | refused N | refused 11 REGION METHOD EXCESS M1 .. Mt
+-- what an answer carries beside a refusal's number
 abbrev pub carried : Answer → List ℕ
 carried accepted = []
 carried (opened cells) = cells ∷ []
 carried (refused n) = []
 carried (over c months excess) = c .region ∷ c .method ∷ natAbs excess ∷ months
 
+-- set, put, open, close, drop: ok | ok CELLS | refused N | refused 11 REGION METHOD EXCESS M1 .. Mt
 abbrev pub answerText : Answer → List ℕ
 answerText a = okOrRefused (refusalNumber a) (carried a)
 

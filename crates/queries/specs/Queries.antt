@@ -32,7 +32,8 @@ pub record Quotation : Type 0 where
   pub charge : ℕ
   pub maximum : ℕ
 
--- "A refusal returns its number"; what BENCHMARK, MAXIMUM and QUOTE give where they do not refuse
+-- "A refusal returns its number"; else BENCHMARK gives the Benchmark Maximum Charge in mills, MAXIMUM the Relevant Maximum Charge as
+-- a fraction, and QUOTE a quotation
 pub data Telling : Type 0 where
   refused : (number : ℕ) → Telling
   benchmarkCharge : (mills : ℕ) → Telling

@@ -19,7 +19,7 @@ abbrev pub encode : List Call → List ℕ
 encode [] = []
 encode (c ∷ cs) = encodeOne c ++ encode cs
 
--- where no check refused: opened is 100 and the number of cells, accepted 0
+-- where no check refused: accepted is 0, and opened 100 and the number of cells
 abbrev pub acceptedNumber : Answer → ℕ
 acceptedNumber accepted = 0
 acceptedNumber (opened n) = 100 + n

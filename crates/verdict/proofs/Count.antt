@@ -10,7 +10,8 @@ use lib.Dec.{eqb, lit<}
 use borrow.Author.Tests.{eqb-true, eqb-false}
 use Rattle.laws.specs.Notions.{sum, tabulate, tabulateFrom, count}
 use Rattle.tariff.specs.declared.Tariff.{Tariff}
-use Rattle.verdict.specs.Cells.{Cell, bit, offered, cellAt, cellCount}
+use Rattle.verdict.specs.Cells.{cell, bit, offered, cellAt, cellCount}
+use Rattle.verdict.proofs.Meaning.{cell-at-rank}
 
 abbrev one : Bool → ℕ
 one t = cond t 1 0
@@ -44,7 +45,7 @@ pub ones-counted : (n set : ℕ) → set < 2 ^ n → count n (bit set) ≡ ones 
 unfolding count tabulate
 ones-counted n set h = rw div-one at (ones-from n set 0 (rw div-one h))
 
--- two cells of a region
+-- the cells of a region
 both-one : (a b : Bool) → one (a && b) ≡ one a * one b
 both-one true b = omega arith
 both-one false b = omega arith
@@ -53,19 +54,13 @@ module _ (x : Tariff) where
   here : ℕ → ℕ
   here n = one (offered x (cellAt n))
 
-  first-cell : (r : ℕ) → here (2 * r) ≡ one (bit (x .regions) r) * one (bit (x .methods) 0)
+  -- cell 2 × r + m of the walk is that of region r and method m
+  in-region : (n r m : ℕ) → m < 2 → n ≡ 2 * r + m → here n ≡ one (bit (x .regions) r) * one (bit (x .methods) m)
   unfolding here offered
-  first-cell r =
-      let a : 2 * r / 2 ≡ r = omega arith in
-      let b : 2 * r % 2 ≡ 0 = omega arith in
-      rw (a, b) (both-one (bit (x .regions) r) (bit (x .methods) 0))
-
-  second-cell : (r : ℕ) → here (suc (2 * r)) ≡ one (bit (x .regions) r) * one (bit (x .methods) 1)
-  unfolding here offered
-  second-cell r =
-      let a : suc (2 * r) / 2 ≡ r = omega arith in
-      let b : suc (2 * r) % 2 ≡ 1 = omega arith in
-      rw (a, b) (both-one (bit (x .regions) r) (bit (x .methods) 1))
+  in-region n r m h e =
+      ap here e
+      ∙ ap (λ c. one (offered x c)) (cell-at-rank (cell r m) h)
+      ∙ both-one (bit (x .regions) r) (bit (x .methods) m)
 
   regions-from : (n r : ℕ) → sum (tabulateFrom (2 * r) (2 * n) here)
       ≡ sum (tabulateFrom r n (λ j. one (bit (x .regions) j))) * (one (bit (x .methods) 0) + one (bit (x .methods) 1))
@@ -74,7 +69,9 @@ module _ (x : Tariff) where
   regions-from (suc n) r =
       let e : 2 * suc n ≡ suc (suc (2 * n)) = omega arith in
       let f : suc (suc (2 * r)) ≡ 2 * suc r = omega arith in
-      rw (e, f) (omega (arith, first-cell r, second-cell r, regions-from n (suc r)))
+      let first = in-region (2 * r) r 0 (omega arith) (omega arith) in
+      let second = in-region (suc (2 * r)) r 1 (omega arith) (omega arith) in
+      rw (e, f) (omega (arith, first, second, regions-from n (suc r)))
 
   pub cells-counted : x .regions < 16384 → x .methods < 4 → count 28 (λ n. offered x (cellAt n)) ≡ cellCount x
   unfolding count tabulate tabulateFrom sum cellCount here

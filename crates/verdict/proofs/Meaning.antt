@@ -1,18 +1,18 @@
--- What the first cell that exceeds means for every offered cell.
+-- The order of OPEN's walk, and what the first cell that exceeds means for every offered cell.
 -- Assumes nothing.
-use mathlib.Core.Path.{_≡_, refl, sym, _∙_, ap, subst}
+use mathlib.Core.Path.{_≡_, refl, sym, _∙_, ap₂, subst₂}
 use mathlib.Core.Bool.{Bool, true, false, _&&_}
-use mathlib.Core.Logic.{_⊎_, inl, inr}
+use mathlib.Core.Logic.{_↔_, inl, inr}
 use mathlib.Core.Option.{Option, none, some}
 use Prim.Native.Nat.{ℕ, zero, suc, _+_, _*_, _/_, _%_, _<_, _≤_}
-use native.Mathlib.Decide.{decLe}
+use native.Mathlib.Decide.{decLe, decLt}
 use native.Mathlib.Omega.{arith}
 use Rattle.laws.proofs.Every.{and-left, and-right, and-both}
 use Rattle.benchmark.specs.declared.Benchmarks.{Benchmarks}
 use Rattle.tariff.specs.declared.Tariff.{Tariff}
 use Rattle.cap.specs.Cap.{Exceeds}
 use Rattle.cap.specs.Decided.{exceeds?}
-use Rattle.verdict.specs.Cells.{Cell, offered, Offered, terms, ExceedsIn, Before, cellAt, decided, exceedsAt, firstOf, firstBelow, firstOver}
+use Rattle.verdict.specs.Cells.{Cell, cell, offered, Offered, terms, ExceedsIn, Before, cellAt, decided, exceedsAt, firstOf, firstBelow, firstOver}
 
 -- a decision and what it decides
 pub decided-yes : {P : Type 0} (d : Dec P) → decided d ≡ true → P
@@ -36,16 +36,26 @@ rank c = 2 * c .region + c .method
 
 pub cell-at-rank : (c : Cell) → c .method < 2 → cellAt (rank c) ≡ c
 cell-at-rank c h =
-    let r : (2 * c .region + c .method) / 2 ≡ c .region = omega arith in
-    let m : (2 * c .region + c .method) % 2 ≡ c .method = omega arith in
-    rw (r, m)
+    let r : cellAt (rank c) .region ≡ c .region = omega arith in
+    let m : cellAt (rank c) .method ≡ c .method = omega arith in
+    ap₂ cell r m
 
 pub rank-below : (c : Cell) → c .region < 14 → c .method < 2 → rank c < 28
 rank-below c h k = omega arith
 
-pub rank-before : (d c : Cell) → d .method < 2 → Before d c → rank d < rank c
-rank-before d c h (inl l) = omega arith
-rank-before d c h (inr l) = omega (arith, l .0, l .1)
+-- "by region, then method, both rising": `Before` is the order in which the walk takes the cells
+pub in-order : (i j : ℕ) → (i < j) ↔ Before (cellAt i) (cellAt j)
+in-order i j = (onward, back)
+  where
+    onward : i < j → Before (cellAt i) (cellAt j)
+    onward h = elim (decLt (i / 2) (j / 2)) [
+      | yes l ↦ inl l
+      | no l ↦ inr (omega arith, omega arith)
+    ]
+
+    back : Before (cellAt i) (cellAt j) → i < j
+    back (inl l) = omega arith
+    back (inr l) = omega (arith, l .0, l .1)
 
 module _ (b : Benchmarks) (x : Tariff) where
   -- what the walk answers of a prefix, one cell at a time
@@ -133,7 +143,4 @@ module _ (b : Benchmarks) (x : Tariff) where
       (o, rw (f .2) (hit-exceeds (f .0) (f .4)), λ d p l h. not-both (hit d p h) (none-below (f .0) (f .3) (rank d) (earlier d p l (f .0) (f .2))))
     where
       earlier : (d : Cell) → Offered x d → Before d c → (i : ℕ) → c ≡ cellAt i → rank d < i
-      earlier d p l i q =
-          let r : rank (cellAt i) ≡ i = omega arith in
-          let s : rank d < rank (cellAt i) = rank-before d (cellAt i) (p .1) (rw q at l) in
-          omega arith
+      earlier d p l i q = in-order (rank d) i .1 (subst₂ Before (sym (cell-at-rank d (p .1))) q l)

@@ -52,6 +52,7 @@ abbrev pub ExceedsIn : Benchmarks → Tariff → Cell → Type 0
 ExceedsIn b x c = Exceeds (terms b x c) x
 
 -- "Cells are taken by region, then method, both rising": one cell before another, and cell n in this order
+-- (proofs/Meaning.antt, `in-order`)
 abbrev pub Before : Cell → Cell → Type 0
 Before d c = (d .region < c .region) ⊎ ((d .region ≡ c .region) × (d .method < c .method))
 

@@ -1,41 +1,32 @@
 -- Demand 3 holds. The book agrees with the readings of the log, call by call, and whatever is open by the log exceeds nowhere
 -- with the sheet in force.
 -- Assumes nothing.
-use mathlib.Core.Path.{_≡_, refl, sym, _∙_, ap, subst₂, subst₃}
+use mathlib.Core.Path.{_≡_, refl, sym, _∙_, ap, subst}
 use mathlib.Core.Bool.{Bool, true, false, cond}
-use mathlib.Core.Logic.{_↔_}
-use mathlib.Core.List.{List, [], _∷_}
+use mathlib.Core.Logic.{_↔_, _⊎_, inl, inr}
+use mathlib.Core.List.{List, [], _∷_, _++_}
 use mathlib.Core.Option.{Option, none, some}
-use Prim.Native.Nat.{ℕ, _<_}
-use native.Mathlib.Decide.{decLt}
-use native.Mathlib.Omega.{arith}
+use Prim.Native.Nat.{ℕ}
 use lib.Dec.{eqb}
-use lib.IntN.{ℤ, pos}
-use lib.ListN.{length, length-map, length-replicate}
-use lib.Signed.{_≤ℤ_}
+use lib.ListN.{length, getElem?, length-map, length-replicate}
 use borrow.Author.Tests.{eqb-true}
 use Rattle.laws.proofs.Every.{and-right}
-use Rattle.laws.proofs.Differences.{difference-at-most}
-use Rattle.tariff.specs.declared.Tariff.{Tariff}
-use Rattle.tariff.specs.Tariff.{tariffOf, recordCheck}
-use Rattle.cap.specs.declared.Terms.{Terms}
-use Rattle.cap.specs.Cap.{charged, capped, excess, Months, Exceeds, worstMonths}
-use Rattle.cap.specs.Deciding.{worst-months, exceeds-if}
-use Rattle.cap.proofs.Worst.{excess-most, exceeds-at-worst}
-use Rattle.verdict.specs.Cells.{Cell, Offered, terms, cellCount, verdictAt, verdict, firstOver}
-use Rattle.verdict.proofs.Meaning.{none-exceeds, first-exceeds}
-use Rattle.book.specs.declared.State.the-variants.{Draft, Open}
+use Rattle.tariff.specs.Tariff.{tariffOf, validTariff, recordCheck}
+use Rattle.verdict.specs.Cells.{Cell, firstOver}
+use Rattle.verdict.proofs.Meaning.{none-exceeds}
+use Rattle.book.specs.declared.State.{State}
+use Rattle.book.specs.declared.State.the-variants.{Empty, Draft, Open}
 use Rattle.book.specs.declared.Place.{Place}
 use Rattle.book.specs.declared.Book.{Book}
-use Rattle.book.specs.Calls.{Sheet, Record, Call, SET, PUT, OPEN, CLOSE, DROP, opened, over, isAccepted}
-use Rattle.book.specs.Checks.{figuresOf, outside, verdictAnswer, openAnswer, answer, isNone, complies}
-use Rattle.book.specs.Book.{empty, stored, numbers, withState, fresh, placeOf, held, isOpen, sheetIf, sheetIn, bookReadings, withPlace, under, changed, after, step, bookAfter, answersOf}
+use Rattle.book.specs.Calls.{Sheet, Record, Call, SET, PUT, OPEN, CLOSE, DROP, isAccepted}
+use Rattle.book.specs.Checks.{figuresOf, outside, answer, isNone, complies}
+use Rattle.book.specs.Book.{empty, stored, numbers, withState, fresh, placeOf, heldIn, held, isOpen, sheetIf, sheetIn, bookReadings, withPlace, under, changed, after, step, bookAfter, answersOf}
 use Rattle.book.proofs.Places.{never, inside, at-set, length-setPlace, at-map, held-under, open-under, fresh-place, held-numbers, held-inside, record-length, listed}
 use Rattle.book.proofs.Found.{put-accepted, close-accepted, drop-accepted, Opens, open-accepted}
--- one call more at the end of a list: the book and the answers
-pub use Rattle.book.proofs.Reached.{book-append, answers-append}
+use Rattle.book.proofs.Reached.{reached, tariff-held}
 use Rattle.history.specs.History.{sheetOf, recordOf, openOf, readings, noted, logAfter, acceptedOf, answersAfter}
-use Rattle.history.specs.Claim.{IsOver, excessIn, MonthsOf, ExceedsSomewhere, Shows, Demand3}
+use Rattle.history.specs.Claim.{ExceedsSomewhere, OpenAnswer, Demand3}
+use Rattle.history.proofs.OpenAnswers.{nowhere-above, nowhere, open-answer}
 
 -- the log's readings are the book's
 record Agrees (log : List Call) (b : Book) : Type 0 where
@@ -189,92 +180,6 @@ at-start = (
   λ k x o t. never (cc),
 )
 
--- what answer 11 shows
-shown : (s : Sheet) (x : Record) (c : Cell) → firstOver (figuresOf s) (tariffOf x) ≡ some c
-    → Shows s x c (worstMonths (terms (figuresOf s) (tariffOf x) c) (tariffOf x))
-    (excessIn s x c (worstMonths (terms (figuresOf s) (tariffOf x) c) (tariffOf x)))
-unfolding terms
-shown s x c e =
-    let f = first-exceeds (figuresOf s) (tariffOf x) c e in
-    let t = terms (figuresOf s) (tariffOf x) c in
-    record {
-      cell = f .0;
-      first = f .2;
-      consumptions = worst-months t (tariffOf x);
-      is-excess = refl;
-      above = exceeds-at-worst t (tariffOf x) (f .1);
-      greatest = λ others h. excess-most t (tariffOf x) others h;
-    }
-
--- where a tariff does not exceed, no months are above the maximum
-at-most : (e : Terms) (x : Tariff) → (Exceeds e x → ⊥) → (months : List ℕ) → Months (e .months) months → excess e x months ≤ℤ pos 0
-unfolding excess
-at-most e x n months h = go (decLt (capped e months) (charged e x months))
-  where
-    go : Dec (capped e months < charged e x months) → excess e x months ≤ℤ pos 0
-    go (yes l) = absurd (n (months, h, exceeds-if e x months l))
-    go (no l) = difference-at-most (charged e x months) (capped e months) 0 0 (omega arith)
-
-nowhere-above : (s : Sheet) (x : Record) → firstOver (figuresOf s) (tariffOf x) ≡ none
-    → (c : Cell) → Offered (tariffOf x) c → (months : List ℕ) → MonthsOf s months → excessIn s x c months ≤ℤ pos 0
-unfolding terms
-nowhere-above s x e c o months h =
-    at-most (terms (figuresOf s) (tariffOf x) c) (tariffOf x) (none-exceeds (figuresOf s) (tariffOf x) e c o) months h
-
--- an OPEN that is refused as over the cap
-record Refused (t : Option Record) (s : Option Sheet) (c : Cell) (months : List ℕ) (e : ℤ) : Type 0 where
-  x : Record
-  its : t ≡ some x
-  sheet : Sheet
-  in-force : s ≡ some sheet
-  shows : Shows sheet x c months e
-
-verdict-over : (s : Sheet) (x : Record) (c : Cell) (months : List ℕ) (e : ℤ) (f : Option Cell) → firstOver (figuresOf s) (tariffOf x) ≡ f
-    → verdictAnswer (verdictAt (figuresOf s) (tariffOf x) f) ≡ over c months e → Refused (some x) (some s) c months e
-verdict-over s x c months e none f q = never (cc)
-verdict-over s x c months e (some d) f q =
-    let t = terms (figuresOf s) (tariffOf x) d in
-    let same-cell : d ≡ c = cc in
-    let same-months : worstMonths t (tariffOf x) ≡ months = cc in
-    let same-excess : excess t (tariffOf x) (worstMonths t (tariffOf x)) ≡ e = cc in
-    record {
-      x = x;
-      its = refl;
-      sheet = s;
-      in-force = refl;
-      shows = subst₃ (λ c months e. Shows s x c months e) same-cell same-months same-excess (shown s x d f);
-    }
-
-open-over : (o : Bool) (t : Option Record) (p : Bool) (s : Option Sheet) (c : Cell) (months : List ℕ) (e : ℤ)
-    → openAnswer o t p s ≡ over c months e → Refused t s c months e
-unfolding verdict
-open-over true t p s c months e q = never (cc)
-open-over false none p s c months e q = never (cc)
-open-over false (some x) true s c months e q = never (cc)
-open-over false (some x) false none c months e q = never (cc)
-open-over false (some x) false (some s) c months e q = verdict-over s x c months e (firstOver (figuresOf s) (tariffOf x)) refl q
-
--- a tariff that exceeds somewhere is over the cap, and one that exceeds nowhere opens
-over-if : (s : Sheet) (x : Record) → ExceedsSomewhere s x → IsOver (verdictAnswer (verdict (figuresOf s) (tariffOf x)))
-unfolding verdict
-over-if s x h = go (firstOver (figuresOf s) (tariffOf x)) refl
-  where
-    go : (f : Option Cell) → firstOver (figuresOf s) (tariffOf x) ≡ f → IsOver (verdictAnswer (verdictAt (figuresOf s) (tariffOf x) f))
-    go none e = absurd (none-exceeds (figuresOf s) (tariffOf x) e (h .0) (h .1) (h .2))
-    go (some c) e = (c, _, _, refl)
-
-nowhere : (s : Sheet) (x : Record) → (ExceedsSomewhere s x → ⊥) → firstOver (figuresOf s) (tariffOf x) ≡ none
-nowhere s x n = go (firstOver (figuresOf s) (tariffOf x)) refl
-  where
-    go : (f : Option Cell) → firstOver (figuresOf s) (tariffOf x) ≡ f → f ≡ none
-    go none e = refl
-    go (some c) e = let f = first-exceeds (figuresOf s) (tariffOf x) c e in absurd (n (c, f .0, f .1))
-
-opens-if : (s : Sheet) (x : Record) → (ExceedsSomewhere s x → ⊥)
-    → verdictAnswer (verdict (figuresOf s) (tariffOf x)) ≡ opened (cellCount (tariffOf x))
-unfolding verdict
-opens-if s x n = rw (nowhere s x n)
-
 -- what a SET asks of an open tariff, in History's `openOf`: that it exceeds in no offered cell
 pub complies-exactly : (s : Sheet) (x : Record) → (complies s (some x) ≡ true) ↔ (ExceedsSomewhere s x → ⊥)
 complies-exactly s x = (
@@ -282,13 +187,33 @@ complies-exactly s x = (
   λ n. ap isNone (nowhere s x n),
 )
 
--- what answer 11 shows is a cell in which the tariff exceeds
-shows-exceeds : (s : Sheet) (x : Record) (c : Cell) (months : List ℕ) (e : ℤ) → Shows s x c months e → ExceedsSomewhere s x
-unfolding terms
-shows-exceeds s x c months e h = (c, h .cell, (months, h .consumptions, rw (h .is-excess) at (h .above)))
+-- the answer that stands at a place of the list
+answer-at : (before after : List Call) (c : Call) (log : List Call)
+    → getElem? (answersAfter log (before ++ (c ∷ after))) (length before) ≡ some (answer (readings (logAfter log before)) c)
+unfolding answersAfter logAfter
+answer-at [] after c log = refl
+answer-at (d ∷ before) after c log = answer-at before after c (noted log d)
 
-some-same : {A : Type 0} {a b : A} → some a ≡ some b → a ≡ b
-some-same e = cc
+-- a code with a tariff is one of the 32, and its tariff passed refusal 8
+in-place : (s : State) (x y : Record) → heldIn s y ≡ some x → (s ≡ Draft) ⊎ (s ≡ Open)
+in-place Empty x y e = never (cc)
+in-place Draft x y e = inl refl
+in-place Open x y e = inr refl
+
+known : (calls : List Call) → Agrees (acceptedOf calls) (bookAfter fresh calls) → (k : ℕ) (x : Record) → recordOf (acceptedOf calls) k ≡ some x
+    → (outside k ≡ false) × (validTariff (tariffOf x) ≡ true)
+known calls a k x e =
+    let b = bookAfter fresh calls in
+    let p = placeOf (b .places) k in
+    let here : held p ≡ some x = a .tariff k ∙ e in
+    let sound = reached b (record { calls = calls; left = refl }) in
+    let valid = tariff-held p (sound .places k) (in-place (p .state) x (numbers p) here) .1 in
+    let same : numbers p ≡ x = held-numbers (p .state) (numbers p) x here in
+    (held-inside (b .places) k x (a .size) here, subst (λ y. validTariff (tariffOf y) ≡ true) same valid)
+
+-- after any list of calls, the answer that is read for an OPEN
+read-open : (calls : List Call) (k : ℕ) → OpenAnswer (acceptedOf calls) k (answer (readings (acceptedOf calls)) (OPEN k))
+read-open calls k = open-answer (acceptedOf calls) k (known calls (all-steps calls [] fresh at-start .1) k)
 
 -- the theorem
 pub demand3 : (calls : List Call) → Demand3 calls (answersOf fresh calls) (bookAfter fresh calls)
@@ -303,18 +228,8 @@ demand3 calls =
       within = λ k x e.
           let w = cap k x (sym (a .open-codes k) ∙ e .0) (sym (a .tariff k) ∙ e .1) in
           (w .0, w .1, nowhere-above (w .0) x (w .2));
-      over-exactly = λ k s x fs ft fo. (
-        λ w.
-            let r = open-over (outside k) (recordOf log k) (openOf log k) (sheetOf log) (w .0) (w .1) (w .2) (sym (same k) ∙ w .3) in
-            let sx : r .sheet ≡ s = some-same (sym (r .in-force) ∙ fs) in
-            let xx : r .x ≡ x = some-same (sym (r .its) ∙ ft) in
-            subst₂ (λ s x. ExceedsSomewhere s x) sx xx (shows-exceeds (r .sheet) (r .x) (w .0) (w .1) (w .2) (r .shows)),
-        λ w. rw (asked k s x fs ft fo) (over-if s x w),
-      );
-      opened-else = λ k s x fs ft fo n. asked k s x fs ft fo ∙ opens-if s x n;
-      over-shows = λ k c months e q.
-          let r = open-over (outside k) (recordOf log k) (openOf log k) (sheetOf log) c months e (sym (same k) ∙ q) in
-          (r .sheet, r .x, r .in-force, r .its, r .shows);
+      each-open = λ before after k e. (answer (readings (acceptedOf before)) (OPEN k), stands before after k e, read-open before k);
+      next-open = λ k. subst (OpenAnswer log k) (sym (ap (λ r. answer r (OPEN k)) (same-readings a))) (read-open calls k);
     }
   where
     b : Book
@@ -332,9 +247,7 @@ demand3 calls =
     cap : Within log
     cap = h .2
 
-    same : (k : ℕ) → answer (bookReadings b) (OPEN k) ≡ answer (readings log) (OPEN k)
-    same k = ap (λ r. answer r (OPEN k)) (same-readings a)
-
-    asked : (k : ℕ) (s : Sheet) (x : Record) → sheetOf log ≡ some s → recordOf log k ≡ some x → openOf log k ≡ false
-        → answer (bookReadings b) (OPEN k) ≡ verdictAnswer (verdict (figuresOf s) (tariffOf x))
-    asked k s x fs ft fo = rw (same k, held-inside (b .places) k x (a .size) (a .tariff k ∙ ft), fs, ft, fo)
+    stands : (before after : List Call) (k : ℕ) → calls ≡ before ++ (OPEN k ∷ after)
+        → getElem? (answersOf fresh calls) (length before) ≡ some (answer (readings (acceptedOf before)) (OPEN k))
+    stands before after k e =
+        ap (λ l. getElem? l (length before)) (h .0 ∙ ap (answersAfter []) e) ∙ answer-at before after (OPEN k) []

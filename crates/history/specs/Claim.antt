@@ -2,20 +2,24 @@
 -- Assumes nothing.
 use mathlib.Core.Path.{_≡_}
 use mathlib.Core.Logic.{_↔_}
-use mathlib.Core.Bool.{Bool, true, false}
+use mathlib.Core.Bool.{true, false}
 use mathlib.Core.List.{List, [], _∷_, _++_}
-use mathlib.Core.Option.{Option, none, some}
-use Prim.Native.Nat.{ℕ, _≤_}
+use mathlib.Core.Option.{some}
+use Prim.Native.Nat.{ℕ, _<_}
 use lib.IntN.{ℤ, pos}
+use lib.ListN.{length, getD, getElem?}
 use lib.Signed.{_<ℤ_, _≤ℤ_}
+use Rattle.laws.specs.Notions.{count}
+use Rattle.laws.specs.Greatest.{Greatest}
 use Rattle.tariff.specs.Tariff.{tariffOf}
-use Rattle.cap.specs.Cap.{Months, excess}
-use Rattle.verdict.specs.Cells.{Cell, Offered, ExceedsIn, Before, terms, cellCount}
+use Rattle.cap.specs.declared.Terms.{Terms}
+use Rattle.cap.specs.Cap.{excess, monthMost, Months, share}
+use Rattle.verdict.specs.Cells.{Cell, offered, Offered, terms, ExceedsIn, Before, cellAt}
 use Rattle.book.specs.declared.Book.{Book}
 use Rattle.book.specs.declared.Done.{Done}
-use Rattle.book.specs.Calls.{Sheet, Record, Call, OPEN, Answer, opened, over}
+use Rattle.book.specs.Calls.{Sheet, Record, Call, OPEN, Answer, opened, over, refusalNumber}
 use Rattle.book.specs.Checks.{figuresOf}
-use Rattle.book.specs.Book.{Step, isOpen, held, placeOf, fresh, step}
+use Rattle.book.specs.Book.{isOpen, held, placeOf, fresh, step}
 use Rattle.book.specs.Promises.{answerOf, Does}
 use Rattle.history.specs.History.{acceptedOf, answersAfter, sheetOf, recordOf, openOf}
 
@@ -23,13 +27,12 @@ use Rattle.history.specs.History.{acceptedOf, answersAfter, sheetOf, rec
 abbrev pub OpenIn : Book → ℕ → Record → Type 0
 OpenIn b k x = (isOpen (placeOf (b .places) k) ≡ true) × (held (placeOf (b .places) k) ≡ some x)
 
--- the answer is 11
-abbrev pub IsOver : Answer → Type 0
-IsOver a = (c : Cell) × (months : List ℕ) × (e : ℤ) × (a ≡ over c months e)
+-- the terms of a cell, with a sheet's figures, and the excess of months there
+abbrev pub termsIn : Sheet → Record → Cell → Terms
+termsIn s x c = terms (figuresOf s) (tariffOf x) c
 
--- the excess of months in a cell, with a sheet's figures
 abbrev pub excessIn : Sheet → Record → Cell → List ℕ → ℤ
-excessIn s x c months = excess (terms (figuresOf s) (tariffOf x) c) (tariffOf x) months
+excessIn s x c months = excess (termsIn s x c) (tariffOf x) months
 
 -- a list of t monthly consumptions, t that of the sheet's period
 abbrev pub MonthsOf : Sheet → List ℕ → Type 0
@@ -39,14 +42,37 @@ MonthsOf s months = Months (figuresOf s .months) months
 abbrev pub ExceedsSomewhere : Sheet → Record → Type 0
 ExceedsSomewhere s x = (c : Cell) × Offered (tariffOf x) c × ExceedsIn (figuresOf s) (tariffOf x) c
 
--- what answer 11 shows: the first cell that exceeds; t months; their excess there, which is above 0 and which no other months pass
+-- what answer 11 shows
 pub record Shows (s : Sheet) (x : Record) (c : Cell) (months : List ℕ) (e : ℤ) : Type 0 where
+  -- the first cell that exceeds, in OPEN's order (verdict/proofs/Meaning.antt, `in-order`)
   pub cell : Offered (tariffOf x) c
   pub first : (d : Cell) → Offered (tariffOf x) d → Before d c → ExceedsIn (figuresOf s) (tariffOf x) d → ⊥
+  -- "t monthly consumptions of greatest excess, each the smallest at which a month's share of the excess is greatest"
   pub consumptions : MonthsOf s months
+  pub greatest : (others : List ℕ) → MonthsOf s others → excessIn s x c others ≤ℤ e
+  pub smallest : (i : ℕ) → i < length months → Greatest (share (termsIn s x c) (tariffOf x)) monthMost (getD months i 0)
+  -- "The excess in answer 11 is that of its months in its cell", and above 0
   pub is-excess : e ≡ excessIn s x c months
   pub above : pos 0 <ℤ e
-  pub greatest : (others : List ℕ) → MonthsOf s others → excessIn s x c others ≤ℤ e
+
+-- "A code with a tariff that is not open is a draft": code k is one, a sheet is in force, and P holds of the two
+abbrev pub DraftWhere : List Call → ℕ → (Sheet → Record → Type 0) → Type 0
+DraftWhere log k P =
+    (s : Sheet) × (x : Record) × (sheetOf log ≡ some s) × (recordOf log k ≡ some x) × (openOf log k ≡ false) × P s x
+
+-- the number of a tariff's cells among the 28 that OPEN takes
+abbrev pub cellsOffered : Record → ℕ
+cellsOffered x = count 28 (λ i. offered (tariffOf x) (cellAt i))
+
+-- what holds of an OPEN of code k, answered a, where log has the calls that were accepted before it
+pub record OpenAnswer (log : List Call) (k : ℕ) (a : Answer) : Type 0 where
+  -- it says 11 exactly when the code is a draft and its tariff exceeds, with the sheet in force, in some offered cell
+  pub over-exactly : (refusalNumber a ≡ some 11) ↔ DraftWhere log k ExceedsSomewhere
+  -- 11 carries a cell, months and an excess, and this is what they are
+  pub over-shows : refusalNumber a ≡ some 11
+      → (c : Cell) × (months : List ℕ) × (e : ℤ) × (a ≡ over c months e) × DraftWhere log k (λ s x. Shows s x c months e)
+  -- it opens exactly when the code is a draft and its tariff exceeds in no offered cell, and says how many they are
+  pub opened-exactly : (n : ℕ) → (a ≡ opened n) ↔ DraftWhere log k (λ s x. (ExceedsSomewhere s x → ⊥) × (n ≡ cellsOffered x))
 
 -- Demand 3, of a list of calls, the answers that they had and the book that they left
 pub record Demand3 (calls : List Call) (answers : List Answer) (b : Book) : Type 0 where
@@ -59,15 +85,11 @@ pub record Demand3 (calls : List Call) (answers : List Answer) (b : Book) : Type
   pub within : (k : ℕ) (x : Record) → OpenIn b k x
       → (s : Sheet) × (sheetOf (acceptedOf calls) ≡ some s)
       × ((c : Cell) → Offered (tariffOf x) c → (months : List ℕ) → MonthsOf s months → excessIn s x c months ≤ℤ pos 0)
-  -- opening a draft then, with a sheet in force, answers 11 exactly when its tariff exceeds in some offered cell
-  pub over-exactly : (k : ℕ) (s : Sheet) (x : Record) → sheetOf (acceptedOf calls) ≡ some s → recordOf (acceptedOf calls) k ≡ some x
-      → openOf (acceptedOf calls) k ≡ false → IsOver (step b (OPEN k) .answer) ↔ ExceedsSomewhere s x
-  -- and otherwise opens it, with the number of its cells
-  pub opened-else : (k : ℕ) (s : Sheet) (x : Record) → sheetOf (acceptedOf calls) ≡ some s → recordOf (acceptedOf calls) k ≡ some x
-      → openOf (acceptedOf calls) k ≡ false → (ExceedsSomewhere s x → ⊥) → step b (OPEN k) .answer ≡ opened (cellCount (tariffOf x))
-  -- 11 shows the first such cell, and months of greatest excess there
-  pub over-shows : (k : ℕ) (c : Cell) (months : List ℕ) (e : ℤ) → step b (OPEN k) .answer ≡ over c months e
-      → (s : Sheet) × (x : Record) × (sheetOf (acceptedOf calls) ≡ some s) × (recordOf (acceptedOf calls) k ≡ some x) × Shows s x c months e
+  -- each OPEN of the list has had, in its place, an answer that says 11 or opens exactly when it should
+  pub each-open : (before after : List Call) (k : ℕ) → calls ≡ before ++ (OPEN k ∷ after)
+      → (a : Answer) × (getElem? answers (length before) ≡ some a) × OpenAnswer (acceptedOf before) k a
+  -- and so would an OPEN made next
+  pub next-open : (k : ℕ) → OpenAnswer (acceptedOf calls) k (step b (OPEN k) .answer)
 
 -- A list of calls made by the code: each on the book that the one before it returned, with any answers and books that the calls'
 -- own promises allow. `Does` is what SET, PUT, OPEN, CLOSE and DROP each ensure.

@@ -1,7 +1,7 @@
 -- Demand 3 holds. The book agrees with the readings of the log, call by call, and whatever is open by the log exceeds nowhere
 -- with the sheet in force.
 -- Assumes nothing.
-use mathlib.Core.Path.{_≡_, refl, sym, _∙_, ap, subst}
+use mathlib.Core.Path.{_≡_, refl, sym, _∙_, ap, ap₂, subst}
 use mathlib.Core.Bool.{Bool, true, false, cond}
 use mathlib.Core.Logic.{_↔_, _⊎_, inl, inr}
 use mathlib.Core.List.{List, [], _∷_, _++_}
@@ -167,7 +167,7 @@ unfolding step answersOf answersAfter logAfter bookAfter
 all-steps [] log b h = (refl, h .0, h .1)
 all-steps (c ∷ cs) log b h =
     let r = all-steps cs (noted log c) (step b c .book) (noted-step log b c h) in
-    (cc (ap (λ r. answer r c) (same-readings (h .0)), r .0), r .1, r .2)
+    (ap₂ _∷_ (ap (λ r. answer r c) (same-readings (h .0))) (r .0), r .1, r .2)
 
 at-start : Agrees [] fresh × Within []
 at-start = (

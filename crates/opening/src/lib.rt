@@ -57,12 +57,13 @@ fn open_at(code: u32, p: Place, loaded: bool, figures: Benchmarks) -> Settled
     let Check::Pass = sheet else {
         return book::refuses(p, sheet);
     };
+    let opened = book::in_state(p, State::Open);
     let outcome = verdict::verdict_of(figures, book::tariff_in(p));
     match outcome {
         Outcome::Opens(cells) => Settled {
             reply: Reply::Opened(cells),
             months: [0; 12],
-            place: book::in_state(p, State::Open),
+            place: opened,
         },
         Outcome::Over(region, method, month, excess) => {
             let t = figures.months;

@@ -113,12 +113,15 @@ returns-4 c =
     opens-refused _ _ _ _ _ _ _ told (c .refuses4 .ensures)
     (λ b at l index there. no-sheet b _ _ (at-code b _ at _ index there w) (filled u) (shut v) w _ (ap (λ t. unless t 10 Pass) l ∙ ten))
 
+in-state-requires : tie.Need-in-state-requires
+in-state-requires c κs = search needs
+
 tariff-in-requires : tie.Need-tariff-in-requires
 tariff-in-requires c κs = search needs
 
 verdict-of-requires : tie.Need-verdict-of-requires
 verdict-of-requires c κs =
-    let q = c .before in
+    let q = c .before .before in
     let v = q .before .before in
     let u = v .before .before in
     let start = u .before .before .before .before .before .before .before .before in
@@ -127,14 +130,11 @@ verdict-of-requires c κs =
 enum-known-outcome : tie.Need-enum-known-outcome
 enum-known-outcome c = search needs
 
-in-state-requires : tie.Need-in-state-requires
-in-state-requires c κs = search needs
-
 enum-known-outcome-2 : tie.Need-enum-known-outcome-2
 enum-known-outcome-2 c = search needs
 
-months-most : (c : tie.After-verdict-of) → c .before .before .before .before .before .before .before .before .before .before .before .before .before .before .args .figures .months ≤ 12
-months-most c = c .before .before .before .before .before .before .before .before .before .before .before .before .before .before .pre .0 (loaded (c .before .before)) .months-most
+months-most : (c : tie.After-verdict-of) → c .before .before .before .before .before .before .before .before .before .before .before .before .before .before .before .args .figures .months ≤ 12
+months-most c = c .before .before .before .before .before .before .before .before .before .before .before .before .before .before .before .pre .0 (loaded (c .before .before .before)) .months-most
 
 cast-equal-months : tie.Need-cast-equal-months
 cast-equal-months c = omega (arith, months-most (c .before .before .before))
@@ -144,22 +144,23 @@ equal-months-requires c κs = months-most (c .before .before .before)
 
 returns-5 : tie.Need-returns-5
 returns-5 c =
-    let o = c .before .before in
+    let o = c .before in
     let f = o .before .before in
-    let q = f .before .before in
+    let i = f .before .before in
+    let q = i .before in
     let v = q .before .before in
     let u = v .before .before in
     let w = within (u .before .before) in
     λ b at reachable l g index there.
     let is = at-code b _ at _ index there w in
     let answered = answers-outcome b _ _ is (filled u) (shut v) reachable (l ∙ loaded q) _ g w _ _ _ (f .before .tariff-in .ensures) (f .verdict-of .ensures) (o .outcome .given .1) in
-    opens b _ _ _ answered (refl, refl, ap (withPlace b (suc at)) (c .in-state .ensures) ∙ placed b _ at _ index there w (withState Open))
+    opens b _ _ _ answered (refl, refl, ap (withPlace b (suc at)) (i .in-state .ensures) ∙ placed b _ at _ index there w (withState Open))
 
 returns-6 : tie.Need-returns-6
 returns-6 c =
     let o = c .before .before in
     let f = o .before .before in
-    let q = f .before .before in
+    let q = f .before .before .before in
     let v = q .before .before in
     let u = v .before .before in
     let w = within (u .before .before) in
@@ -192,10 +193,10 @@ open-at-spec =
     enum-told-8
     refuses-requires-4
     returns-4
+    in-state-requires
     tariff-in-requires
     verdict-of-requires
     enum-known-outcome
-    in-state-requires
     enum-known-outcome-2
     cast-equal-months
     equal-months-requires

@@ -2,7 +2,7 @@
 -- with the sheet in force.
 -- Assumes nothing.
 use mathlib.Core.Path.{_≡_, refl, sym, _∙_, ap, ap₂, subst}
-use mathlib.Core.Bool.{Bool, true, false, cond}
+use mathlib.Core.Bool.{Bool, true, false, cond, _&&_}
 use mathlib.Core.Logic.{_↔_, _⊎_, inl, inr}
 use mathlib.Core.List.{List, [], _∷_, _++_}
 use mathlib.Core.Option.{Option, none, some}
@@ -83,7 +83,7 @@ agrees-changed log b a (SET s) e =
           ap held (at-map s (b .places) k) ∙ held-under s (p .state) (numbers p) ∙ a .tariff k;
       open-codes = λ k.
           let p = placeOf (b .places) k in
-          ap isOpen (at-map s (b .places) k) ∙ open-under s (p .state) (numbers p) ∙ cc (a .open-codes k, a .tariff k);
+          ap isOpen (at-map s (b .places) k) ∙ open-under s (p .state) (numbers p) ∙ ap₂ (λ o t. o && complies s t) (a .open-codes k) (a .tariff k);
       size = length-map (b .places) (under s) ∙ a .size;
     }
 agrees-changed log b a (PUT k x) e =

@@ -11,9 +11,7 @@ use lib.ListN.{length, getD, List·getD-eq-default}
 use borrow.Author.Tests.{leb-true, eqb-true}
 use Rattle.laws.proofs.Lists.{length-tabulate, getD-tabulate}
 use Rattle.laws.proofs.Every.{every-at}
-use Rattle.refusal.specs.declared.Check.{Check}
 use Rattle.refusal.specs.declared.Check.the-variants.{Pass}
-use Rattle.refusal.specs.Checks.{unless}
 use Rattle.calendar.specs.declared.Period.{Period}
 use Rattle.calendar.specs.Calendar.{periodInRange}
 use Rattle.calendar.proofs.Periods.{within}
@@ -22,12 +20,8 @@ use Rattle.sheet.specs.Sheet.{Ranged, Indexed, field, fieldsInRange, termsFit}
 use Rattle.sheet.proofs.Bounds.{level-some, level-most}
 use Rattle.benchmark.specs.Benchmark.{place, benchmark, figure, figures, ordered, benchmarksOf, setCheck}
 use Rattle.benchmark.specs.Lawful.{Lawful}
+use Rattle.benchmark.proofs.Checks.{unless-passes}
 use Rattle.benchmark.proofs.Commons.{benchmark-most}
-
--- a check that passes has its test true, and the checks after it pass
-unless-passes : (t : Bool) (n : ℕ) (next : Check) → unless t n next ≡ Pass → (t ≡ true) × (next ≡ Pass)
-unless-passes true n next e = (refl, e)
-unless-passes false n next e = absurd (let z : _≡_ {A = ℕ} 0 1 = cc in omega arith)
 
 module _ (s : List ℕ) (p : Period) (e : setCheck s p ≡ Pass) where
   checks-passed :

@@ -7,7 +7,7 @@ use lib.Dec.{leb, eqb}
 use lib.ListN.{length, getD, replicate}
 use Rattle.laws.specs.Notions.{every, tabulate}
 use Rattle.refusal.specs.declared.Check.{Check}
-use Rattle.refusal.specs.declared.Check.the-variants.{Pass, Refuse}
+use Rattle.refusal.specs.declared.Check.the-variants.{Pass}
 use Rattle.refusal.specs.Checks.{unless}
 use Rattle.calendar.specs.declared.Period.{Period}
 use Rattle.calendar.specs.Calendar.{periodInRange, periodDays}
@@ -87,10 +87,6 @@ setCheck s p =
     unless (eqb (length s) fieldCount) 1
     (unless (fieldsInRange s) 2 (unless (periodInRange p) 3 (unless (termsFit s) 4 (unless (ordered (figures s)) 5 Pass))))
 
--- nothing worked out, beside a refusal
+-- nothing worked out, as in a book without a sheet
 abbrev pub noBenchmarks : Benchmarks
 noBenchmarks = record { charges = replicate 112 0; levels = replicate 2 0; months = 0; days = 0 }
-
-abbrev pub workedIf : Check → Benchmarks → Benchmarks
-workedIf Pass b = b
-workedIf (Refuse n) b = noBenchmarks

@@ -1,3 +1,4 @@
 pub mod Benchmark
 pub mod Common
 pub mod Lawful
+pub mod Working

@@ -1,14 +1,18 @@
 // The Benchmark Maximum Charge of 28AD.7 to 28AD.13, the 112 figures of a sheet, and SET's refusals 1 to 5.
-// Promise: each of the 112 figures is the paper's formula (proofs/Lawful.antt, `charge-at-place`); `work_out` answers SET's first refusal, or the figures with which tariffs are judged.
-// What the layer above may use: `Benchmarks`, `benchmarksOf` and `setCheck` of specs/Benchmark.antt, and `Lawful` of specs/Lawful.antt.
+// Promise: each of the 112 figures is the paper's formula (proofs/Lawful.antt, `charge-at-place`); `work_out` answers SET's first
+// refusal, or the figures with which tariffs are judged. What the layer above may use: `Benchmarks`, `benchmarksOf` and `setCheck`
+// of specs/Benchmark.antt, `Lawful` of specs/Lawful.antt, and `workedIf` of specs/Working.antt.
 ghost use mathlib.Core.Path.{_≡_};
-ghost use mathlib.Core.Bool.{true};
 ghost use Prim.Native.Nat.{_+_, _*_, _%_, _≤_, _<_};
-ghost use lib.ListN.{length, getD};
+ghost use lib.Dec.{eqb};
+ghost use lib.ListN.{length};
+ghost use Rattle.refusal.specs.declared.Check.the-variants.{Pass};
+ghost use Rattle.refusal.specs.Checks.{unless};
 ghost use Rattle.calendar.specs.Calendar.{periodInRange};
-ghost use Rattle.sheet.specs.Sheet.{Ranged, Indexed, field, round};
-ghost use Rattle.benchmark.specs.Benchmark.{smncc, wc, pc, oc, paenc, nc, panc, figure, figures, ordered, benchmarksOf, setCheck, noBenchmarks, workedIf};
+ghost use Rattle.sheet.specs.Sheet.{Ranged, Indexed, fieldCount, fieldsInRange, termsFit, round};
+ghost use Rattle.benchmark.specs.Benchmark.{smncc, wc, pc, oc, paenc, nc, panc, figure, figures, ordered, benchmarksOf, setCheck, noBenchmarks};
 ghost use Rattle.benchmark.specs.Common.{common, commonAt, commons};
+ghost use Rattle.benchmark.specs.Working.{workedIf};
 use calendar::Period;
 use refusal::Check;
 
@@ -138,11 +142,56 @@ fn all_ordered(charges: [u32; 112]) -> bool
     true
 }
 
-fn refused(n: u32) -> Worked
-    ensures { λ r. ⌜ (r .check ≡ Check.Refuse n) × (r .benchmarks ≡ noBenchmarks) ⌝ }
+// Refusal n, unless the test holds.
+fn refuse_unless(holds: bool, n: u32) -> Check
+    ensures { λ r. ⌜ r ≡ unless holds n Pass ⌝ }
+{
+    if holds { Check::Pass } else { Check::Refuse(n) }
+}
+
+// 1: not 95 numbers.
+fn count_check(s: &[u32]) -> Check
+    ensures { λ r. ⌜ r ≡ unless (eqb (length (now (s .entry))) fieldCount) 1 Pass ⌝ }
+{
+    refuse_unless(s.len() == 95, 1)
+}
+
+// 2: a field outside its range.
+fn fields_check(s: &[u32]) -> Check
+    requires { ⌜ length (now s) ≡ 95 ⌝ }
+    ensures { λ r. ⌜ r ≡ unless (fieldsInRange (now (s .entry))) 2 Pass ⌝ }
+{
+    refuse_unless(sheet::fields_in_range(s), 2)
+}
+
+// 3: a period outside its range.
+fn period_check(p: Period) -> Check
+    ensures { λ r. ⌜ r ≡ unless (periodInRange p) 3 Pass ⌝ }
+{
+    refuse_unless(calendar::in_range(p), 3)
+}
+
+// 4: an indexed term above 100,000,000.
+fn terms_check(s: &[u32]) -> Check
+    requires { ⌜ Ranged (now s) ⌝ }
+    ensures { λ r. ⌜ r ≡ unless (termsFit (now (s .entry))) 4 Pass ⌝ }
+{
+    refuse_unless(sheet::terms_fit(s), 4)
+}
+
+// 5: some benchmark at m below its benchmark at nil.
+fn order_check(charges: [u32; 112]) -> Check
+    ensures { λ r. ⌜ r ≡ unless (ordered charges) 5 Pass ⌝ }
+{
+    refuse_unless(all_ordered(charges), 5)
+}
+
+// The answer of a check that refuses, with nothing worked out.
+fn refused(check: Check) -> Worked
+    ensures { λ r. ⌜ (r .check ≡ check) × (r .benchmarks ≡ noBenchmarks) ⌝ }
 {
     Worked {
-        check: Check::Refuse(n),
+        check,
         benchmarks: Benchmarks {
             charges: [0; 112],
             levels: [0; 2],
@@ -152,29 +201,32 @@ fn refused(n: u32) -> Worked
     }
 }
 
-// SET's checks on a lent sheet and a period, and what they come to where all pass.
+// SET's checks on a lent sheet and a period, and what they come to where all pass. An answer is worked out as soon as the answers
+// before it allow, and opened in the order of document 01.
 pub fn work_out(s: &[u32], p: Period) -> Worked
     ensures { λ r. ⌜ (r .check ≡ setCheck (now (s .entry)) p) × (r .benchmarks ≡ workedIf (setCheck (now (s .entry)) p) (benchmarksOf (now (s .entry)) p)) ⌝ }
 {
-    if s.len() != 95 {
-        return refused(1);
-    }
-    let fields = sheet::fields_in_range(s);
-    let period = calendar::in_range(p);
-    if !fields {
-        return refused(2);
-    }
-    if !period {
-        return refused(3);
-    }
-    let terms = sheet::terms_fit(s);
-    if !terms {
-        return refused(4);
-    }
+    let counted = count_check(s);
+    let period = period_check(p);
+    let Check::Pass = counted else {
+        return refused(counted);
+    };
+    let fields = fields_check(s);
+    let Check::Pass = fields else {
+        return refused(fields);
+    };
+    let terms = terms_check(s);
+    let Check::Pass = period else {
+        return refused(period);
+    };
+    let Check::Pass = terms else {
+        return refused(terms);
+    };
     let charges = figures_of(s);
-    if !all_ordered(charges) {
-        return refused(5);
-    }
+    let order = order_check(charges);
+    let Check::Pass = order else {
+        return refused(order);
+    };
     let single = s[93];
     let economy = s[94];
     Worked {

@@ -7,8 +7,9 @@ use Prim.Native.Nat.{suc}
 use Rattle.refusal.specs.declared.Check.{Check}
 use Rattle.refusal.specs.declared.Check.the-variants.{Pass}
 use Rattle.benchmark.specs.declared.Benchmarks.{Benchmarks}
-use Rattle.benchmark.specs.Benchmark.{benchmarksOf, setCheck, workedIf}
+use Rattle.benchmark.specs.Benchmark.{benchmarksOf, setCheck}
 use Rattle.benchmark.specs.Lawful.{Lawful}
+use Rattle.benchmark.specs.Working.{workedIf}
 use Rattle.benchmark.proofs.Lawful.{lawful, passed-count}
 use Rattle.book.proofs.Reached.{reached}
 use Rattle.book.proofs.Steps.{hands-on, accepts, set-refused, set-passed}

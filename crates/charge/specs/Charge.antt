@@ -34,7 +34,7 @@ weighted [] shares = 0
 weighted (r ∷ rs) [] = 0
 weighted (r ∷ rs) (p ∷ ps) = r * p + weighted rs ps
 
--- each register's share of the kWh, in percent, at its rate
+-- what the weighted rate stands for (proofs/Weighted.antt, `charge-registers`): each register's share of the kWh, in percent, at its rate
 unfoldable pub registers : List ℕ → List ℕ → ℕ → ℕ
 registers [] shares kwh = 0
 registers (r ∷ rs) [] kwh = 0

@@ -1,7 +1,8 @@
 // The cap in one cell: the Relevant Maximum Charge of 28AD.6, the excess of a tariff over it, and whether the tariff exceeds
 // for any list of t months. Promise: `judge` says so exactly, with the worst month and its excess, though it looks at no more
-// than five consumptions; `sides_of` gives QUOTE's two numbers. What the layer above may use: `Exceeds`, `excess`,
-// `worstMonths` of specs/Cap.antt, `exceeds?` of specs/Decided.antt, and the theorems in proofs/Worst.antt.
+// than five consumptions; `sides_of` gives QUOTE's two numbers, and `maximum_of` MAXIMUM's. Each kWh is charged by
+// `charge::charge_for` and allowed by `allowed_for`. What the layer above may use: `Exceeds`, `excess`, `worstMonths` of
+// specs/Cap.antt, `exceeds?` of specs/Decided.antt, and the theorems in proofs/Worst.antt.
 ghost use mathlib.Core.Path.{_≡_};
 ghost use mathlib.Core.Bool.{true};
 ghost use Prim.Native.Nat.{ℕ, _+_, _-_, _*_, _≤_, _<_};
@@ -115,7 +116,8 @@ fn charged_up_to(before: u64, m: u64, rate: u64, from: u64, to: u64) -> u64
     requires { ⌜ (before ≤ 48000000000000000) × (m ≤ 20000) × (rate ≤ 20000000) × (from ≤ to) × (to ≤ 10000) ⌝ }
     ensures { λ r. ⌜ r ≡ before + 12 * m * (rate * (to - from)) ⌝ }
 {
-    before + 12 * m * (rate * (to - from))
+    let between = charge::charge_for(Mills(rate), Kwh(to - from));
+    before + 12 * m * between.0
 }
 
 // The corners of a tariff, for a sheet's m.

@@ -1,7 +1,7 @@
 // What a tariff charges: tiers month by month, weighted rates on the total, and the standing charge by the day.
-// Promise: `charge` is a hundred times the charge of a lent list of months. A hundred times, since a weighted rate in percent
-// is a fraction of a mill. What the layer above may use: `monthCharge`, `charge` and `arrangement` of specs/Charge.antt,
-// `tiers_of` with specs/Tiers.antt, and the laws in proofs/.
+// Promise: `charge_of` gives a hundred times the charge of a lent list of months. A hundred times, since a weighted rate in percent
+// is a fraction of a mill. What the layer above may use: `monthCharge`, `charge` and `arrangement` of specs/Charge.antt, the charge
+// helper `charge_for`, `tiers_of` with specs/Tiers.antt, and the laws in proofs/.
 ghost use mathlib.Core.Path.{_≡_};
 ghost use mathlib.Core.Bool.{true};
 ghost use Prim.Native.Nat.{ℕ, _+_, _-_, _*_, _≤_, _<_, min};
@@ -31,7 +31,7 @@ fn wide(x: u32) -> u64
 }
 
 // The charge helper: a rate for each kWh, and the kWh.
-fn charge_for(rate: Mills, used: Kwh) -> Mills
+pub fn charge_for(rate: Mills, used: Kwh) -> Mills
     requires { ⌜ (rate .0 ≤ 20000000) × (used .0 ≤ 10000) ⌝ }
     ensures { λ r. ⌜ r .0 ≡ rate .0 * used .0 ⌝ }
 {

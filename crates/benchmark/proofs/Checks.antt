@@ -13,7 +13,8 @@ use Rattle.refusal.specs.declared.Check.the-variants.{Pass, Refuse}
 use Rattle.refusal.specs.Checks.{unless}
 use Rattle.calendar.specs.declared.Period.{Period}
 use Rattle.calendar.specs.Calendar.{periodInRange}
-use Rattle.sheet.specs.Sheet.{Ranged, Indexed, fieldsInRange, termsFit}
+use Rattle.sheet.specs.Sheet.{fieldsInRange, termsFit}
+use Rattle.sheet.specs.Ranged.{Ranged, Indexed}
 use Rattle.benchmark.specs.declared.Worked.{Worked}
 use Rattle.benchmark.specs.Benchmark.{figures, ordered, benchmarksOf, setCheck, noBenchmarks}
 use Rattle.benchmark.specs.Working.{workedIf}

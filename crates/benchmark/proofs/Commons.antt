@@ -5,7 +5,7 @@ use mathlib.Core.List.{List}
 use Prim.Native.Nat.{ℕ, _+_, _*_, _/_, _%_, _≤_, _<_}
 use native.Mathlib.Omega.{arith}
 use lib.ListN.{getD}
-use Rattle.sheet.specs.Sheet.{Indexed}
+use Rattle.sheet.specs.Ranged.{Indexed}
 use Rattle.benchmark.specs.Benchmark.{four, nc, wc, pc, oc, paenc, headroom, panc, benchmark, figure}
 use Rattle.laws.proofs.Lists.{getD-tabulate}
 use Rattle.benchmark.specs.Common.{common, commonAt, commons}

@@ -16,7 +16,8 @@ use Rattle.calendar.specs.declared.Period.{Period}
 use Rattle.calendar.specs.Calendar.{periodInRange}
 use Rattle.calendar.proofs.Periods.{within}
 use Rattle.calendar.proofs.Lengths.{days-most}
-use Rattle.sheet.specs.Sheet.{Ranged, Indexed, field, fieldsInRange, termsFit}
+use Rattle.sheet.specs.Sheet.{field, fieldsInRange, termsFit}
+use Rattle.sheet.specs.Ranged.{Ranged, Indexed}
 use Rattle.sheet.proofs.Bounds.{level-some, level-most}
 use Rattle.benchmark.specs.Benchmark.{place, benchmark, figure, figures, ordered, benchmarksOf, setCheck}
 use Rattle.benchmark.specs.Lawful.{Lawful}

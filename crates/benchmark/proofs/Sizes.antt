@@ -4,7 +4,8 @@ use mathlib.Core.List.{List}
 use Prim.Native.Nat.{ℕ, _+_, _*_, _<_, _≤_}
 use native.Mathlib.Nat.{mul-le-mul-right}
 use native.Mathlib.Omega.{arith}
-use Rattle.sheet.specs.Sheet.{Indexed, field, round}
+use Rattle.sheet.specs.Sheet.{field, round}
+use Rattle.sheet.specs.Ranged.{Indexed}
 use Rattle.sheet.proofs.Bounds.{ppm-most, money-most, df-most, cm-most, pc-most, oc-most, paac-most}
 use Rattle.benchmark.specs.Benchmark.{nc, wc, pc, oc, paenc, headroom, panc}
 

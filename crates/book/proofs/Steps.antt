@@ -22,10 +22,10 @@ use Rattle.book.specs.declared.Reply.the-variants.{Accepted, Opened, Ref
 use Rattle.book.specs.declared.Settled.{Settled}
 use Rattle.book.specs.declared.Done.{Done}
 use Rattle.book.specs.Calls.{Sheet, Record, Call, SET, PUT, OPEN, CLOSE, DROP, Answer, accepted, opened, refused, over, isAccepted}
-use Rattle.book.specs.Checks.{figuresOf, outside, codeCheck, setAnswer, verdictAnswer}
+use Rattle.book.specs.Checks.{figuresOf, outside, setAnswer, verdictAnswer}
+use Rattle.book.specs.Settling.{codeCheck, settledIn, Settles, emptyCheck, openCheck, closedCheck, refusalOf}
 use Rattle.book.specs.Book.{beyond, placeOf, numbers, heldIn, isOpenState, sheetIn, withPlace, changed, after, step}
 use Rattle.book.specs.Promises.{answerOf, monthsIn, Does}
-use Rattle.book.specs.Settling.{settledIn, Settles, emptyCheck, openCheck, closedCheck, refusalOf}
 use Rattle.book.proofs.Places.{never, inside}
 
 -- "Any call refused changes nothing", and the book after an accepted one

@@ -6,7 +6,6 @@ use Prim.Native.Nat.{ℕ}
 use lib.Dec.{leb}
 use Rattle.refusal.specs.declared.Check.{Check}
 use Rattle.refusal.specs.declared.Check.the-variants.{Pass, Refuse}
-use Rattle.refusal.specs.Checks.{unless}
 use Rattle.benchmark.specs.declared.Benchmarks.{Benchmarks}
 use Rattle.benchmark.specs.Benchmark.{benchmarksOf, setCheck}
 use Rattle.tariff.specs.Tariff.{tariffOf, recordCheck}
@@ -27,9 +26,6 @@ figuresOf s = benchmarksOf (s .fields) (s .period)
 -- 6: code outside 1 to 32
 abbrev pub outside : ℕ → Bool
 outside k = not (leb 1 k && leb k 32)
-
-abbrev pub codeCheck : ℕ → Check
-codeCheck k = unless (not (outside k)) 6 Pass
 
 -- SET: 1 to 5
 abbrev pub setAnswer : Check → Answer

@@ -1,6 +1,7 @@
 -- What a call on the place of a code comes to, and the checks that look at one place: how the code goes about it.
 -- Assumes nothing.
 use mathlib.Core.Path.{_≡_}
+use mathlib.Core.Bool.{not}
 use Prim.Native.Nat.{ℕ, suc}
 use lib.ListN.{getD}
 use Rattle.refusal.specs.declared.Check.{Check}
@@ -14,9 +15,14 @@ use Rattle.book.specs.declared.Book.{Book}
 use Rattle.book.specs.declared.Place.{Place}
 use Rattle.book.specs.declared.Settled.{Settled}
 use Rattle.book.specs.Calls.{Call}
-use Rattle.book.specs.Checks.{codeCheck}
+use Rattle.refusal.specs.Checks.{unless}
+use Rattle.book.specs.Checks.{outside}
 use Rattle.book.specs.Book.{beyond, withPlace}
 use Rattle.book.specs.Promises.{Does}
+
+-- 6: code outside 1 to 32
+abbrev pub codeCheck : ℕ → Check
+codeCheck k = unless (not (outside k)) 6 Pass
 
 -- a call on the place of a code, handed on: the book with the place after it at that index
 abbrev pub settledIn : Book → ℕ → Settled → Done

@@ -27,7 +27,7 @@ use Rattle.book.specs.Calls.{Sheet, Record, Call, OPEN, Answer, opened, refused
 use Rattle.book.specs.Checks.{figuresOf, outside, verdictAnswer, openAnswer, answer}
 use Rattle.book.proofs.Places.{never}
 use Rattle.history.specs.History.{sheetOf, recordOf, openOf, readings}
-use Rattle.history.specs.Claim.{termsIn, excessIn, MonthsOf, ExceedsSomewhere, Shows, DraftWhere, cellsOffered, OpenAnswer}
+use Rattle.history.specs.Claim.{cellTerms, excessIn, MonthsOf, ExceedsSomewhere, Shows, DraftWhere, cellsOffered, OpenAnswer}
 
 -- each of the worst months is the smallest of greatest share
 each-worst : (e : Terms) (x : Tariff) (i : ℕ) → i < length (worstMonths e x)
@@ -38,11 +38,11 @@ each-worst e x i h =
 
 -- what answer 11 shows
 shown : (s : Sheet) (x : Record) (c : Cell) → firstOver (figuresOf s) (tariffOf x) ≡ some c
-    → Shows s x c (worstMonths (termsIn s x c) (tariffOf x)) (excessIn s x c (worstMonths (termsIn s x c) (tariffOf x)))
+    → Shows s x c (worstMonths (cellTerms s x c) (tariffOf x)) (excessIn s x c (worstMonths (cellTerms s x c) (tariffOf x)))
 unfolding terms
 shown s x c e =
     let f = first-exceeds (figuresOf s) (tariffOf x) c e in
-    let t = termsIn s x c in
+    let t = cellTerms s x c in
     record {
       cell = f .0;
       first = f .2;

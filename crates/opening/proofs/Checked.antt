@@ -26,11 +26,11 @@ use Rattle.book.specs.declared.Reply.the-variants.{Over}
 use Rattle.book.specs.declared.Settled.{Settled}
 use Rattle.book.specs.declared.Done.{Done}
 use Rattle.book.specs.Calls.{Call, OPEN, refused, over}
-use Rattle.book.specs.Checks.{figuresOf, codeCheck, verdictAnswer}
+use Rattle.book.specs.Checks.{figuresOf, verdictAnswer}
+use Rattle.book.specs.Settling.{codeCheck, settledIn, emptyCheck, openCheck, refusalOf}
 use Rattle.book.specs.Book.{beyond, placeOf, numbers, sheetIn, withPlace, step, Reachable}
 use Rattle.book.specs.Sound.{tariffIn, Holds}
 use Rattle.book.specs.Promises.{Does}
-use Rattle.book.specs.Settling.{settledIn, emptyCheck, openCheck, refusalOf}
 use Rattle.book.proofs.Places.{never}
 use Rattle.book.proofs.InForce.{check-refused, figures-are}
 use Rattle.book.proofs.Reached.{reached, tariff-held}

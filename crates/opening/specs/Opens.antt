@@ -10,10 +10,9 @@ use Rattle.book.specs.declared.Place.{Place}
 use Rattle.book.specs.declared.Settled.{Settled}
 use Rattle.book.specs.declared.Book.{Book}
 use Rattle.book.specs.Calls.{OPEN}
-use Rattle.book.specs.Checks.{codeCheck}
+use Rattle.book.specs.Settling.{codeCheck, settledIn}
 use Rattle.book.specs.Book.{beyond, Reachable}
 use Rattle.book.specs.Promises.{Does}
-use Rattle.book.specs.Settling.{settledIn}
 
 -- in every reachable book with that sheet, those figures and that place at that code
 abbrev pub Opens : ℕ → Place → Bool → Benchmarks → Settled → Type 0

@@ -22,9 +22,9 @@ use Rattle.book.specs.declared.State.{State}
 use Rattle.book.specs.declared.State.the-variants.{Empty, Draft, Open}
 use Rattle.book.specs.declared.Place.{Place}
 use Rattle.book.specs.declared.Book.{Book}
-use Rattle.book.specs.Checks.{figuresOf, outside, codeCheck}
+use Rattle.book.specs.Checks.{figuresOf, outside}
+use Rattle.book.specs.Settling.{codeCheck, emptyCheck}
 use Rattle.book.specs.Book.{beyond, placeOf, numbers, sheetIn, Reachable}
-use Rattle.book.specs.Settling.{emptyCheck}
 use Rattle.book.specs.Sound.{tariffIn, Holds}
 use Rattle.book.proofs.Places.{never}
 use Rattle.book.proofs.Reached.{reached, tariff-held}

@@ -10,7 +10,8 @@ use lib.Dec.{leb}
 use borrow.Author.Tests.{leb-true}
 use Rattle.laws.specs.Notions.{every}
 use Rattle.laws.proofs.Every.{every-at, and-left, and-right}
-use Rattle.sheet.specs.Sheet.{field, rangeOf, fieldInRange, fieldsInRange, termMost, dfTerm, cmTerm, pcTerm, ocTerm, paacTerm, fourFit, paacFits, termsFit, Ranged, Indexed}
+use Rattle.sheet.specs.Sheet.{field, rangeOf, fieldInRange, fieldsInRange, termMost, dfTerm, cmTerm, pcTerm, ocTerm, paacTerm, fourFit, paacFits, termsFit}
+use Rattle.sheet.specs.Ranged.{Ranged, Indexed}
 use Rattle.sheet.proofs.Ranges.{money-first, ppm-at, money-middle, initial-at, current-at, money-last, level-at, in-range-bounds}
 
 module _ (s : List ℕ) (h : Ranged s) where

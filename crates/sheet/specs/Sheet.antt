@@ -1,11 +1,10 @@
 -- "The cost sheet" of document 01, and its indexed terms.
 -- Assumes nothing.
-use mathlib.Core.Path.{_≡_}
-use mathlib.Core.Bool.{Bool, true, false, cond, _&&_}
+use mathlib.Core.Bool.{Bool, cond, _&&_}
 use mathlib.Core.List.{List}
 use Prim.Native.Nat.{ℕ, _+_, _*_, _/_}
 use lib.Dec.{leb}
-use lib.ListN.{length, getD}
+use lib.ListN.{getD}
 use Rattle.laws.specs.Notions.{every}
 use Rattle.sheet.specs.declared.Range.{Range}
 
@@ -91,12 +90,3 @@ paacFits s p = leb (paacTerm s p) termMost
 
 unfoldable pub termsFit : List ℕ → Bool
 termsFit s = every 4 (fourFit s) && (paacFits s 0 && paacFits s 1)
-
--- a sheet that refusals 1 and 2 let pass, and one that 4 lets pass too
-pub record Ranged (s : List ℕ) : Type 0 where
-  pub count : length s ≡ fieldCount
-  pub ranges : fieldsInRange s ≡ true
-
-pub record Indexed (s : List ℕ) : Type 0 where
-  pub ranged : Ranged s
-  pub terms : termsFit s ≡ true

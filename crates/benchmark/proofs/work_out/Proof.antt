@@ -13,7 +13,8 @@ use Rattle.refusal.specs.declared.Check.the-variants.{Pass}
 use Rattle.refusal.specs.Checks.{unless}
 use Rattle.calendar.specs.declared.Period.{Period}
 use Rattle.calendar.specs.Calendar.{periodInRange}
-use Rattle.sheet.specs.Sheet.{Ranged, Indexed, fieldsInRange, termsFit}
+use Rattle.sheet.specs.Sheet.{fieldsInRange, termsFit}
+use Rattle.sheet.specs.Ranged.{Ranged, Indexed}
 use Rattle.benchmark.specs.Benchmark.{figures, ordered, benchmarksOf}
 use Rattle.benchmark.proofs.Checks.{unless-passes, first-refuses, second-refuses, third-refuses, fourth-refuses, fifth-answers, answers-refusal, answers-pass}
 use Rattle.benchmark.proofs.work_out.Statement.{statement}

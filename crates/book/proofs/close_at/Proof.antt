@@ -2,7 +2,7 @@
 use mathlib.Core.Path.{_≡_, sym, _∙_}
 use Rattle.refusal.specs.declared.Check.the-variants.{Pass}
 use Rattle.book.specs.declared.State.the-variants.{Draft}
-use Rattle.book.specs.Checks.{codeCheck}
+use Rattle.book.specs.Settling.{codeCheck}
 use Rattle.book.specs.Book.{withState}
 use Rattle.book.proofs.Steps.{at-code, placed, settles-refused, settles-accepted, close-outside, close-empty, close-closed, closes}
 use borrow.Author.Needs.{needs}

@@ -1,7 +1,7 @@
 -- `book::drop_at` meets its contract: each check that refuses is the first that applies, and what is left is empty.
 use mathlib.Core.Path.{_≡_, sym, _∙_}
 use Rattle.refusal.specs.declared.Check.the-variants.{Pass}
-use Rattle.book.specs.Checks.{codeCheck}
+use Rattle.book.specs.Settling.{codeCheck}
 use Rattle.book.specs.Book.{empty}
 use Rattle.book.proofs.Steps.{at-code, placed, settles-refused, settles-accepted, drop-outside, drop-empty, drop-open, drops}
 use borrow.Author.Needs.{needs}

@@ -2,7 +2,7 @@
 use mathlib.Core.Path.{_≡_, sym, _∙_}
 use native.Mathlib.Omega.{arith}
 use Rattle.refusal.specs.declared.Check.the-variants.{Pass}
-use Rattle.book.specs.Checks.{codeCheck}
+use Rattle.book.specs.Settling.{codeCheck}
 use Rattle.book.proofs.Places.{never}
 use Rattle.book.proofs.Steps.{code-passed}
 use borrow.Author.Needs.{needs}

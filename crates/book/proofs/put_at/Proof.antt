@@ -3,7 +3,7 @@ use mathlib.Core.Path.{_≡_, sym, _∙_}
 use denote.Ref.{now}
 use Rattle.refusal.specs.declared.Check.the-variants.{Pass}
 use Rattle.book.specs.declared.State.the-variants.{Draft}
-use Rattle.book.specs.Checks.{codeCheck}
+use Rattle.book.specs.Settling.{codeCheck}
 use Rattle.book.specs.Book.{stored}
 use Rattle.book.proofs.Places.{record-length}
 use Rattle.book.proofs.Steps.{at-code, placed, settles-refused, settles-accepted, put-outside, put-open, put-record, puts}

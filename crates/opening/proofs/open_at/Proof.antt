@@ -7,11 +7,10 @@ use native.Mathlib.Omega.{arith}
 use Rattle.refusal.specs.declared.Check.the-variants.{Pass}
 use Rattle.benchmark.specs.Lawful.{Lawful}
 use Rattle.book.specs.declared.State.the-variants.{Open}
-use Rattle.book.specs.Checks.{codeCheck}
+use Rattle.book.specs.Settling.{codeCheck, emptyCheck, openCheck}
 use Rattle.book.specs.Book.{withState, withPlace}
 use Rattle.refusal.specs.Checks.{unless}
 use Prim.Native.Nat.{suc, _≤_}
-use Rattle.book.specs.Settling.{emptyCheck, openCheck}
 use Rattle.book.proofs.Steps.{at-code, placed, same-place, opens, open-outside, open-empty, open-open}
 use Rattle.book.proofs.InForce.{check-passed}
 use Rattle.opening.proofs.Checked.{no-sheet, answers-outcome, tariff-valid, opens-refused, over-cap}

@@ -9,9 +9,8 @@ use denote.Ref.{now}
 use Rattle.refusal.specs.declared.Check.the-variants.{Pass}
 use Rattle.laws.proofs.Every.{and-left, and-right}
 use Rattle.tariff.specs.Tariff.{validTariff}
-use Rattle.book.specs.Checks.{codeCheck}
+use Rattle.book.specs.Settling.{codeCheck, emptyCheck}
 use Rattle.book.specs.Book.{beyond, placeOf}
-use Rattle.book.specs.Settling.{emptyCheck}
 use Rattle.book.proofs.Steps.{code-passed, index-below}
 use Rattle.queries.specs.Queries.{tellingOf, cellAllowed, monthsAllowed}
 use Rattle.queries.specs.Reading.{refusalTold}

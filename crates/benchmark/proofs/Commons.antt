@@ -6,7 +6,7 @@ use Prim.Native.Nat.{ℕ, _+_, _*_, _/_, _%_, _≤_, _<_}
 use native.Mathlib.Omega.{arith}
 use lib.ListN.{getD}
 use Rattle.sheet.specs.Ranged.{Indexed}
-use Rattle.benchmark.specs.Benchmark.{four, nc, wc, pc, oc, paenc, headroom, panc, benchmark, figure}
+use Rattle.benchmark.specs.Benchmark.{four, nc, wc, pc, oc, paenc, panc, benchmark, figure}
 use Rattle.laws.proofs.Lists.{getD-tabulate}
 use Rattle.benchmark.specs.Common.{common, commonAt, commons}
 use Rattle.benchmark.proofs.Sizes.{costs-most, paenc-most, headroom-most, panc-most, network-most}

@@ -1,6 +1,6 @@
 -- "Benchmark Maximum Charge (28AD.7 to 28AD.13)" of document 01, the 112 figures of a sheet, and SET's refusals 1 to 5.
 -- Assumes nothing.
-use mathlib.Core.Bool.{Bool, true, false, _&&_}
+use mathlib.Core.Bool.{Bool}
 use mathlib.Core.List.{List, [], _∷_}
 use Prim.Native.Nat.{ℕ, _+_, _*_, _/_, _%_}
 use lib.Dec.{leb, eqb}

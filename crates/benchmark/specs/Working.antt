@@ -1,6 +1,5 @@
 -- What `work_out` hands on beside SET's answer: the figures where every check passes, and nothing beside a refusal.
 -- Assumes nothing.
-use Prim.Native.Nat.{ℕ}
 use Rattle.refusal.specs.declared.Check.{Check}
 use Rattle.refusal.specs.declared.Check.the-variants.{Pass, Refuse}
 use Rattle.benchmark.specs.declared.Benchmarks.{Benchmarks}

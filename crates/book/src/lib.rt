@@ -4,7 +4,7 @@
 // `step` and `Reachable` of specs/Book.antt, `Does` of specs/Promises.antt, and proofs/Reached.antt, what holds of every
 // reachable book.
 ghost use mathlib.Core.Path.{_≡_};
-ghost use Prim.Native.Nat.{suc, _≤_, _<_};
+ghost use Prim.Native.Nat.{suc, _<_};
 ghost use lib.ListN.{length, replicate};
 ghost use Rattle.refusal.specs.declared.Check.the-variants.{Pass};
 ghost use Rattle.refusal.specs.Checks.{unless};

@@ -1,15 +1,14 @@
 -- The worst month is found by looking at 0, at each step and at 10,000 alone. General in the number of tiers.
 -- Assumes nothing.
-use mathlib.Core.Path.{_≡_, refl, sym, _∙_, ap}
+use mathlib.Core.Path.{_≡_, refl}
 use mathlib.Core.List.{List, [], _∷_, _++_}
-use Prim.Native.Nat.{ℕ, zero, suc, _+_, _*_, _-_, _<_, _≤_, min}
+use Prim.Native.Nat.{ℕ, suc, _+_, _*_, _-_, _≤_, min}
 use native.Mathlib.Nat.{mul-zero, zero-add, add-zero, mul-assoc, mul-add, add-sub-of-le, le-refl, suc-inj}
 use native.Mathlib.Omega.{arith}
 use lib.ListN.{length}
-use Rattle.laws.specs.Greatest.{firstGreatest}
 use Rattle.laws.proofs.Greatest.{Best, better, best-one, best-zero, grow, line, Straight}
 use Rattle.tariff.specs.declared.Tariff.{Tariff}
-use Rattle.charge.specs.Charge.{tierCharge, monthCharge}
+use Rattle.charge.specs.Charge.{tierCharge}
 use Rattle.charge.specs.Tiers.{Rising, hundredths, ends}
 use Rattle.charge.proofs.Months.{month-tiers}
 use Rattle.cap.specs.declared.Terms.{Terms}

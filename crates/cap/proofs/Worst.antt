@@ -1,6 +1,5 @@
 -- The worst months are worst: what "exceeds" comes to, for every list of t months.
 -- Assumes nothing.
-use mathlib.Core.Path.{_≡_}
 use mathlib.Core.List.{List}
 use Prim.Native.Nat.{ℕ, _≤_}
 use native.Mathlib.Omega.{arith}
@@ -11,7 +10,7 @@ use Rattle.laws.proofs.Differences.{difference-at-most}
 use Rattle.tariff.specs.declared.Tariff.{Tariff}
 use Rattle.cap.specs.declared.Terms.{Terms}
 use Rattle.cap.specs.Cap.{charged, capped, excess, Months, monthMost, Exceeds, worstMonth, worstMonths}
-use Rattle.cap.specs.Deciding.{worst-best, worst-months, worst-most, exceeds-if, only-if, equal-months}
+use Rattle.cap.specs.Deciding.{worst-best, worst-most, exceeds-if, only-if}
 
 module _ (e : Terms) (x : Tariff) where
   -- for every list of t months, the excess is at most that of the worst months

@@ -1,20 +1,20 @@
 -- How it is decided whether a tariff exceeds in a cell: by the worst months, and the laws that make that enough.
 -- Assumes nothing.
-use mathlib.Core.Path.{_≡_, refl, sym, _∙_, ap}
+use mathlib.Core.Path.{_≡_, ap}
 use mathlib.Core.List.{List}
 use Prim.Native.Nat.{ℕ, zero, suc, _+_, _-_, _*_, _≤_, _<_}
 use native.Mathlib.Decide.{decLt}
 use native.Mathlib.Omega.{arith}
-use lib.IntN.{ℤ, pos, _-ℤ_}
-use lib.ListN.{length, getD, replicate, length-replicate}
-use lib.Signed.{_<ℤ_, _≤ℤ_}
-use Rattle.laws.specs.Notions.{sum, total}
-use Rattle.laws.specs.Greatest.{Greatest, firstGreatest}
+use lib.IntN.{ℤ, pos}
+use lib.ListN.{getD, replicate, length-replicate}
+use lib.Signed.{_<ℤ_}
+use Rattle.laws.specs.Notions.{total}
+use Rattle.laws.specs.Greatest.{Greatest}
 use Rattle.laws.proofs.Sums.{total-same, total-scaled, total-line}
-use Rattle.laws.proofs.Differences.{difference-above, above-difference, difference-at-most}
+use Rattle.laws.proofs.Differences.{difference-above, above-difference}
 use Rattle.laws.proofs.Greatest.{Best, first-best, first-greatest, total-most}
 use Rattle.tariff.specs.declared.Tariff.{Tariff}
-use Rattle.charge.specs.Charge.{monthCharge, charge}
+use Rattle.charge.specs.Charge.{monthCharge}
 use Rattle.charge.proofs.Months.{charge-monthly}
 use Rattle.cap.specs.declared.Terms.{Terms}
 use Rattle.cap.specs.Cap.{maximum, charged, capped, excess, Months, monthMost, Exceeds, share, worstMonth, worstMonths}

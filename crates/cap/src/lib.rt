@@ -6,7 +6,7 @@
 ghost use mathlib.Core.Path.{_≡_};
 ghost use mathlib.Core.Bool.{true};
 ghost use Prim.Native.Nat.{ℕ, _+_, _-_, _*_, _≤_, _<_};
-ghost use lib.ListN.{length, getD, take};
+ghost use lib.ListN.{length};
 ghost use Rattle.laws.specs.Notions.{sum};
 ghost use Rattle.tariff.specs.Tariff.{validTariff};
 ghost use Rattle.charge.specs.Tiers.{Sound};

@@ -1,12 +1,12 @@
 -- Differences of charges: a comparison of two differences is one of two sums, each side moved across.
 -- Assumes nothing.
 use mathlib.Core.Path.{_≡_, refl, sym, _∙_, ap}
-use mathlib.Core.Bool.{Bool, true, false, cond}
+use mathlib.Core.Bool.{Bool, true, false}
 use Prim.Native.Nat.{ℕ, zero, suc, _+_, _-_, _<_, _≤_}
 use native.Mathlib.Omega.{arith}
-use lib.Dec.{T, ltb, leb, lt→ltb, ltb→lt}
-use lib.IntN.{ℤ, pos, negsuc, _-ℤ_, subℕ}
-use lib.Signed.{ltZ, leZ, _<ℤ_, _≤ℤ_, ltZ-yes, ltZ-no}
+use lib.Dec.{ltb, lt→ltb, ltb→lt}
+use lib.IntN.{ℤ, pos, negsuc, _-ℤ_}
+use lib.Signed.{ltZ, _<ℤ_, _≤ℤ_, ltZ-yes, ltZ-no}
 use borrow.Author.Tests.{ltb-true, ltb-false, lt-ltb, le-ltb}
 
 -- a - b, by which of the two is less

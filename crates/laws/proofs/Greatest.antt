@@ -1,7 +1,7 @@
 -- The smallest number at which a difference u x - v x is greatest, with each side of a comparison moved across, so that
 -- only naturals are left; and how it is found by looking at the ends of straight pieces alone.
 -- Assumes nothing.
-use mathlib.Core.Path.{_≡_, refl, sym, _∙_, ap}
+use mathlib.Core.Path.{_≡_, refl}
 use mathlib.Core.Bool.{Bool, true, false, cond}
 use mathlib.Core.List.{List, [], _∷_}
 use mathlib.Core.Logic.{_⊎_, inl, inr}
@@ -12,7 +12,6 @@ use native.Mathlib.Omega.{arith}
 use lib.Dec.{ltb}
 use lib.IntN.{ℤ, pos, _-ℤ_}
 use lib.ListN.{length, getD}
-use lib.Signed.{ltZ, _<ℤ_, _≤ℤ_}
 use borrow.Author.Tests.{ltb-true, ltb-false}
 use Rattle.laws.specs.Notions.{total}
 use Rattle.laws.specs.Greatest.{Greatest, later, firstGreatest}

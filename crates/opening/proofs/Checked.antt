@@ -1,7 +1,7 @@
 -- What OPEN's checks leave: a draft under a sheet in force, the walk's answer on it, and the months of answer 11.
 -- Assumes nothing.
 use mathlib.Core.Path.{_≡_, refl, sym, _∙_, ap, ap₂, subst}
-use mathlib.Core.Bool.{Bool, true, false}
+use mathlib.Core.Bool.{Bool, true}
 use mathlib.Core.List.{List, _++_}
 use mathlib.Core.Logic.{inl}
 use Prim.Native.Nat.{ℕ, zero, suc, _+_, _≤_}
@@ -26,9 +26,9 @@ use Rattle.book.specs.declared.Reply.the-variants.{Over}
 use Rattle.book.specs.declared.Settled.{Settled}
 use Rattle.book.specs.declared.Done.{Done}
 use Rattle.book.specs.Calls.{Call, OPEN, refused, over}
-use Rattle.book.specs.Checks.{figuresOf, verdictAnswer}
+use Rattle.book.specs.Checks.{verdictAnswer}
 use Rattle.book.specs.Settling.{codeCheck, settledIn, emptyCheck, openCheck, refusalOf}
-use Rattle.book.specs.Book.{beyond, placeOf, numbers, sheetIn, withPlace, step, Reachable}
+use Rattle.book.specs.Book.{beyond, placeOf, numbers, withPlace, step, Reachable}
 use Rattle.book.specs.Sound.{tariffIn, Holds}
 use Rattle.book.specs.Promises.{Does}
 use Rattle.book.proofs.Places.{never}

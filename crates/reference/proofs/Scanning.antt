@@ -1,8 +1,7 @@
 -- A verdict on known figures, by the scan of the corners.
 -- Assumes nothing.
 use mathlib.Core.Path.{_≡_, _∙_, ap}
-use mathlib.Core.List.{List}
-use Prim.Native.Nat.{ℕ, suc}
+use Prim.Native.Nat.{suc}
 use lib.ListN.{length}
 use Rattle.benchmark.specs.declared.Benchmarks.{Benchmarks}
 use Rattle.tariff.specs.declared.Tariff.{Tariff}

@@ -1,8 +1,7 @@
 -- The table of starred verdicts holds: the figures of the sheet by computation, the verdicts by the scan of the corners.
 -- Assumes nothing.
 use mathlib.Core.Path.{_≡_, refl, _∙_, ap}
-use mathlib.Core.Bool.{Bool, true, false}
-use mathlib.Core.List.{List, [], _∷_, _++_}
+use mathlib.Core.List.{List, [], _∷_}
 use Prim.Native.Nat.{ℕ, suc}
 use lib.Count.{ones, onesIn}
 use lib.Dec.{lit<}
@@ -13,15 +12,14 @@ use Rattle.calendar.specs.Calendar.{periodDays, periodInRange, monthBegins, len
 use Rattle.sheet.specs.Sheet.{rangeOf, fieldInRange, fieldsInRange, round, indexed, fourFit, paacFits, termsFit}
 use Rattle.benchmark.specs.declared.Benchmarks.{Benchmarks}
 use Rattle.benchmark.specs.Benchmark.{benchmark, wc, pc, oc, nc, paenc, headroom, panc, figure, figures, ordered, setCheck, benchmarksOf}
-use Rattle.tariff.specs.declared.Tariff.{Tariff}
 use Rattle.tariff.specs.Tariff.{tariffOf, recordCheck, validTariff, validKind, singleRegister, economy7, multiRegister, ratesWithin, zeroFrom, within, rising}
 use Rattle.charge.specs.Charge.{arrangement, tierCharge, weighted, monthCharge, charge}
 use Rattle.charge.specs.Tiers.{Rising, hundredths, ends}
 use Rattle.cap.specs.Cap.{maximum, charged, capped, excess}
 use Rattle.cap.specs.Judged.{scan}
-use Rattle.verdict.specs.Cells.{Cell, bit, offered, terms, cellCount, Verdict, opens, over, verdict}
+use Rattle.verdict.specs.Cells.{bit, offered, terms, cellCount, Verdict, opens, over}
 use Rattle.verdict.proofs.Scanned.{scannedBelow, scannedVerdict}
-use Rattle.reference.specs.SheetS.{times, sheetS, periodS, flat, tiered, economySeven}
+use Rattle.reference.specs.SheetS.{times, sheetS, flat, tiered, economySeven}
 use Rattle.reference.specs.Starred.{Starred, benchmarksS, firstOther, verdictOn, excessOf}
 use Rattle.reference.proofs.Scanning.{by-scan}
 

@@ -3,7 +3,7 @@
 use mathlib.Core.Bool.{Bool, true, false}
 use Prim.Native.Nat.{ℕ}
 use Rattle.refusal.specs.declared.Check.{Check}
-use Rattle.refusal.specs.declared.Check.the-variants.{Pass, Refuse}
+use Rattle.refusal.specs.declared.Check.the-variants.{Refuse}
 
 -- refusal n unless the test holds, and then what the checks after it say
 abbrev pub unless : Bool → ℕ → Check → Check

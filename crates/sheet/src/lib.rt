@@ -4,8 +4,8 @@
 ghost use mathlib.Core.Path.{_≡_};
 ghost use mathlib.Core.Bool.{true};
 ghost use Prim.Native.Nat.{_+_, _*_, _≤_, _<_};
-ghost use lib.ListN.{length, getD};
-ghost use Rattle.sheet.specs.Sheet.{rangeOf, fieldInRange, fieldsInRange, round, field, indexed, dfTerm, cmTerm, pcTerm, ocTerm, paacTerm, fourFit, paacFits, termsFit};
+ghost use lib.ListN.{length};
+ghost use Rattle.sheet.specs.Sheet.{rangeOf, fieldInRange, fieldsInRange, round, indexed, dfTerm, cmTerm, pcTerm, ocTerm, paacTerm, fourFit, paacFits, termsFit};
 ghost use Rattle.sheet.specs.Ranged.{Ranged};
 
 pub struct Range {

@@ -1,7 +1,7 @@
 -- The 112 figures of sheet U, worked out once.
 -- Assumes nothing.
 use mathlib.Core.Path.{_≡_, refl}
-use mathlib.Core.List.{List, [], _∷_}
+use mathlib.Core.List.{[], _∷_}
 use Rattle.laws.specs.Notions.{tabulate, tabulateFrom}
 use Rattle.calendar.specs.Calendar.{periodDays, monthBegins, lengthAt, monthLength, leapYear}
 use Rattle.sheet.specs.Sheet.{round, indexed}

@@ -2,10 +2,10 @@
 -- Assumes nothing.
 use mathlib.Core.Path.{_≡_, refl, sym, _∙_, ap, ap₂}
 use mathlib.Core.Bool.{Bool, true, false, cond, _&&_}
-use Prim.Native.Nat.{ℕ, zero, suc, _+_, _*_, _/_, _%_, _^_, _<_, _≤_}
-use native.Mathlib.Nat.{pow-suc, div-div-eq-div-mul, div-lt-iff-lt-mul, div-one, mod-lt}
+use Prim.Native.Nat.{ℕ, zero, suc, _+_, _*_, _/_, _%_, _^_, _<_}
+use native.Mathlib.Nat.{pow-suc, div-div-eq-div-mul, div-lt-iff-lt-mul, div-one}
 use native.Mathlib.Omega.{arith}
-use lib.Count.{ones, onesIn, ones-step, ones-le}
+use lib.Count.{ones, onesIn, ones-step}
 use lib.Dec.{eqb, lit<}
 use borrow.Author.Tests.{eqb-true, eqb-false}
 use Rattle.laws.specs.Notions.{sum, tabulate, tabulateFrom, count}

@@ -1,16 +1,15 @@
 -- The order of OPEN's walk, and what the first cell that exceeds means for every offered cell.
 -- Assumes nothing.
 use mathlib.Core.Path.{_≡_, refl, sym, _∙_, ap₂, subst₂}
-use mathlib.Core.Bool.{Bool, true, false, _&&_}
+use mathlib.Core.Bool.{Bool, true, false}
 use mathlib.Core.Logic.{_↔_, inl, inr}
 use mathlib.Core.Option.{Option, none, some}
-use Prim.Native.Nat.{ℕ, zero, suc, _+_, _*_, _/_, _%_, _<_, _≤_}
+use Prim.Native.Nat.{ℕ, zero, suc, _+_, _*_, _/_, _<_}
 use native.Mathlib.Decide.{decLe, decLt}
 use native.Mathlib.Omega.{arith}
 use Rattle.laws.proofs.Every.{and-left, and-right, and-both}
 use Rattle.benchmark.specs.declared.Benchmarks.{Benchmarks}
 use Rattle.tariff.specs.declared.Tariff.{Tariff}
-use Rattle.cap.specs.Cap.{Exceeds}
 use Rattle.cap.specs.Decided.{exceeds?}
 use Rattle.verdict.specs.Cells.{Cell, cell, offered, Offered, terms, ExceedsIn, Before, cellAt, decided, exceedsAt, firstOf, firstBelow, firstOver}
 

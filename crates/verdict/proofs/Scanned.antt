@@ -7,12 +7,12 @@ use mathlib.Core.Option.{Option, none, some}
 use Prim.Native.Nat.{ℕ, zero, suc}
 use lib.Dec.{ltb}
 use lib.ListN.{length, replicate}
-use borrow.Author.Tests.{ltb-true, ltb-false, lt-ltb}
+use borrow.Author.Tests.{ltb-true, lt-ltb}
 use Rattle.benchmark.specs.declared.Benchmarks.{Benchmarks}
 use Rattle.tariff.specs.declared.Tariff.{Tariff}
 use Rattle.charge.specs.Tiers.{Rising, hundredths, ends}
 use Rattle.cap.specs.declared.Terms.{Terms}
-use Rattle.cap.specs.Cap.{charged, capped, excess, worstMonth, worstMonths, Exceeds}
+use Rattle.cap.specs.Cap.{charged, capped, excess, worstMonths}
 use Rattle.cap.specs.Deciding.{monthCharged, monthCapped, exceeds-if, only-if, worst-months}
 use Rattle.cap.specs.Decided.{exceeds?}
 use Rattle.cap.specs.Judged.{scan, corners}

@@ -1,11 +1,10 @@
 -- The walk over the cells, one step at a time.
 -- Assumes nothing.
 use mathlib.Core.Path.{_≡_, refl, sym, _∙_, ap, subst₂}
-use mathlib.Core.Bool.{Bool, true, false, cond, _&&_, and-false}
-use mathlib.Core.Option.{Option, none, some}
-use Prim.Native.Nat.{ℕ, zero, suc, _+_, _*_, _-_, _/_, _%_, _<_, _≤_}
+use mathlib.Core.Bool.{Bool, true, false, cond, and-false}
+use mathlib.Core.Option.{none, some}
+use Prim.Native.Nat.{ℕ, suc, _+_, _*_, _-_, _<_, _≤_}
 use native.Mathlib.Nat.{add-zero}
-use native.Mathlib.Decide.{decLe}
 use native.Mathlib.Omega.{arith}
 use lib.Dec.{eqb}
 use lib.IntN.{pos}
@@ -17,14 +16,14 @@ use Rattle.tariff.specs.declared.Tariff.{Tariff}
 use Rattle.charge.specs.Charge.{arrangement}
 use Rattle.cap.specs.declared.Terms.{Terms}
 use Rattle.cap.specs.declared.Judged.the-variants.{Within, Over}
-use Rattle.cap.specs.Cap.{excess, worstMonth, worstMonths}
+use Rattle.cap.specs.Cap.{worstMonth, worstMonths}
 use Rattle.cap.specs.Decided.{exceeds?}
 use Rattle.cap.specs.Judged.{Fits, Judges}
 use Rattle.verdict.specs.declared.Found.the-variants as found
 use Rattle.verdict.specs.declared.Outcome.the-variants as outcome
-use Rattle.verdict.specs.Cells.{Cell, bit, offered, terms, cellAt, decided, exceedsAt, firstBelow, firstOver, cellCount, opens, over, verdictAt, verdict, cell}
+use Rattle.verdict.specs.Cells.{Cell, bit, offered, terms, cellAt, exceedsAt, firstBelow, firstOver, cellCount, opens, over, verdictAt, verdict, cell}
 use Rattle.verdict.specs.Found.{Finds, verdictOf}
-use Rattle.verdict.proofs.Meaning.{rank, cell-at-rank, yes-decided, no-decided, below-none, below-here, below-later}
+use Rattle.verdict.proofs.Meaning.{cell-at-rank, yes-decided, no-decided, below-none, below-here, below-later}
 
 -- arrangement 0 or 1
 pub arrangement-small : (x : Tariff) → arrangement x < 2

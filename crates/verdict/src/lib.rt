@@ -4,7 +4,7 @@
 // `Offered`, `ExceedsIn` of specs/Cells.antt, and the theorems in proofs/Meaning.antt and proofs/Count.antt.
 ghost use mathlib.Core.Path.{_≡_};
 ghost use mathlib.Core.Bool.{true};
-ghost use Prim.Native.Nat.{_+_, _≤_, _<_};
+ghost use Prim.Native.Nat.{_+_, _<_};
 ghost use lib.ListN.{length, getD};
 ghost use Rattle.benchmark.specs.Lawful.{Lawful};
 ghost use Rattle.tariff.specs.Tariff.{validTariff};

@@ -1,22 +1,21 @@
 -- The worked lists hold: each answer from the starred table, one call after the other.
 -- Assumes nothing.
-use mathlib.Core.Path.{_≡_, refl, sym, _∙_, ap}
-use mathlib.Core.Bool.{Bool, true, false, cond, _&&_}
+use mathlib.Core.Path.{_≡_, refl, _∙_, ap}
+use mathlib.Core.Bool.{true, false}
 use mathlib.Core.List.{List, [], _∷_}
 use mathlib.Core.Option.{Option, none, some}
 use Prim.Native.Nat.{ℕ}
 use lib.IntN.{pos, ℤ}
-use Rattle.refusal.specs.declared.Check.the-variants.{Pass, Refuse}
 use Rattle.benchmark.specs.declared.Benchmarks.{Benchmarks}
 use Rattle.benchmark.specs.Benchmark.{setCheck, benchmark, wc, pc, oc, nc, paenc, headroom, panc, figure, figures, benchmarksOf}
 use Rattle.tariff.specs.declared.Tariff.{Tariff}
 use Rattle.tariff.specs.Tariff.{tariffOf, recordCheck}
 use Rattle.verdict.specs.Cells.{Cell, bit, offered, terms, opens, verdict, verdictAt, firstOver}
 use Rattle.verdict.specs.Cells as cells
-use Rattle.book.specs.Calls.{Sheet, Record, Call, SET, PUT, OPEN, CLOSE, DROP, Answer, accepted, opened, refused, over, isAccepted}
-use Rattle.book.specs.Checks.{Readings, figuresOf, answer, setAnswer, putAnswer, openAnswer, closeAnswer, verdictAnswer, isNone, complies}
+use Rattle.book.specs.Calls.{Sheet, Record, Call, SET, PUT, OPEN, CLOSE, Answer, accepted, opened, refused, over, isAccepted}
+use Rattle.book.specs.Checks.{figuresOf, answer, setAnswer, putAnswer, closeAnswer, verdictAnswer, isNone, complies}
 use Rattle.book.proofs.Places.{never}
-use Rattle.history.specs.History.{sheetOf, recordOf, openOf, readings, noted, answersAfter}
+use Rattle.history.specs.History.{readings, answersAfter}
 use Rattle.laws.specs.Notions.{every, sum, total, tabulate, tabulateFrom}
 use Rattle.calendar.specs.Calendar.{periodDays, monthBegins, lengthAt, monthLength, leapYear}
 use Rattle.sheet.specs.Sheet.{round, indexed}
@@ -28,7 +27,7 @@ use Rattle.reference.specs.SheetS.{sheetS, times}
 use Rattle.reference.specs.Starred.{firstOther}
 use Rattle.reference.proofs.Table.{starred}
 use Rattle.worked.proofs.October.{october-accepted, october-low, october-close, close-record, high-record}
-use Rattle.worked.specs.Worked.{quarter, october, nothing, low, close, high, steep, answersTo, Worked}
+use Rattle.worked.specs.Worked.{quarter, october, nothing, low, close, steep, Worked}
 
 -- one call: accepted, and noted; or refused, and not
 pub goes-on : (log : List Call) (c : Call) (cs : List Call) (a : Answer) (rest : List Answer) → answer (readings log) c ≡ a → isAccepted a ≡ true

@@ -1,30 +1,27 @@
 -- Sheet S for October 2023 alone: it is accepted, and two tariffs under it.
 -- Assumes nothing.
-use mathlib.Core.Path.{_≡_, refl, sym, _∙_, ap, subst}
-use mathlib.Core.Bool.{Bool, true, false}
-use mathlib.Core.List.{List, [], _∷_, _++_}
-use Prim.Native.Nat.{ℕ, zero, suc, _<_}
+use mathlib.Core.Path.{_≡_, refl}
+use mathlib.Core.List.{List, [], _∷_}
+use Prim.Native.Nat.{ℕ, suc, _<_}
 use lib.Count.{ones, onesIn}
 use lib.Dec.{lit<}
-use lib.IntN.{ℤ, pos, negsuc}
+use lib.IntN.{pos}
 use lib.ListN.{length}
-use lib.Signed.{_<ℤ_, ltZ-yes}
 use Rattle.laws.specs.Notions.{every, sum, total, tabulate, tabulateFrom}
 use Rattle.calendar.specs.Calendar.{periodDays, periodInRange, monthBegins, lengthAt, monthLength, leapYear}
 use Rattle.sheet.specs.Sheet.{rangeOf, fieldInRange, fieldsInRange, round, indexed, fourFit, paacFits, termsFit}
 use Rattle.benchmark.specs.declared.Benchmarks.{Benchmarks}
 use Rattle.benchmark.specs.Benchmark.{benchmark, wc, pc, oc, nc, paenc, headroom, panc, figure, figures, ordered, setCheck, benchmarksOf}
-use Rattle.tariff.specs.declared.Tariff.{Tariff}
 use Rattle.tariff.specs.Tariff.{tariffOf, recordCheck, validTariff, validKind, singleRegister, economy7, multiRegister, ratesWithin, zeroFrom, within, rising}
 use Rattle.charge.specs.Charge.{arrangement, tierCharge, weighted, monthCharge, charge}
 use Rattle.charge.specs.Tiers.{Rising, hundredths, ends}
 use Rattle.cap.specs.Cap.{maximum, charged, capped, excess}
 use Rattle.cap.specs.Judged.{scan}
-use Rattle.verdict.specs.Cells.{Cell, bit, offered, terms, cellCount, Verdict, opens, over, verdict}
+use Rattle.verdict.specs.Cells.{bit, offered, terms, cellCount, Verdict, opens, over, verdict}
 use Rattle.verdict.proofs.Scanned.{scannedBelow, scannedVerdict}
 use Rattle.reference.proofs.Scanning.{by-scan}
-use Rattle.reference.specs.SheetS.{times, sheetS, periodS, flat, tiered, economySeven}
-use Rattle.reference.specs.Starred.{Starred, benchmarksS, firstOther, verdictOn, excessOf}
+use Rattle.reference.specs.SheetS.{times, sheetS, flat}
+use Rattle.reference.specs.Starred.{firstOther}
 use Rattle.refusal.specs.declared.Check.the-variants.{Pass}
 use Rattle.calendar.specs.declared.Period.{Period}
 

@@ -1,8 +1,6 @@
 -- The lists of refused calls hold, each answer by computation.
 -- Assumes nothing.
-use mathlib.Core.Path.{_≡_, refl, ap}
-use mathlib.Core.Bool.{false}
-use mathlib.Core.List.{List, [], _∷_}
+use mathlib.Core.Path.{refl}
 use Rattle.laws.specs.Notions.{every, sum, tabulate, tabulateFrom}
 use Rattle.calendar.specs.Calendar.{periodInRange}
 use Rattle.sheet.specs.Sheet.{rangeOf, fieldInRange, fieldsInRange, round, indexed, fourFit, paacFits, termsFit}

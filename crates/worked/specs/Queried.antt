@@ -1,11 +1,11 @@
 -- What BENCHMARK, MAXIMUM and QUOTE give of sheet U, and their refusals, as the second implementation works them out.
 -- Assumes nothing.
 use mathlib.Core.Path.{_≡_}
-use mathlib.Core.List.{List, [], _∷_}
+use mathlib.Core.List.{[], _∷_}
 use Rattle.book.specs.declared.Book.{Book}
 use Rattle.book.specs.Calls.{sheetAt, SET, PUT}
 use Rattle.book.specs.Book.{fresh, bookAfter}
-use Rattle.queries.specs.Queries.{Telling, refused, benchmarkCharge, maximumCharge, quotation, benchmarkOf, maximumOf, quoteOf}
+use Rattle.queries.specs.Queries.{refused, benchmarkCharge, maximumCharge, quotation, benchmarkOf, maximumOf, quoteOf}
 use Rattle.unlike.specs.SheetU.{sheetU, periodU, threeTiers, threeRegisters}
 
 -- sheet U, with three tiers in place 1 and three registers in place 4; and the registers without a sheet

@@ -1,14 +1,13 @@
 -- Lists of calls that are refused, each by one thing that is wrong: the ends of the ranges, and what comes before what.
 -- Assumes nothing.
 use mathlib.Core.Path.{_≡_}
-use mathlib.Core.List.{List, [], _∷_}
+use mathlib.Core.List.{[], _∷_}
 use Prim.Native.Nat.{ℕ}
 use lib.ListN.{set}
-use Rattle.calendar.specs.declared.Period.{Period}
-use Rattle.book.specs.Calls.{Sheet, sheetAt, Record, SET, PUT, OPEN, CLOSE, DROP, accepted, opened, refused}
+use Rattle.book.specs.Calls.{Sheet, sheetAt, Record, SET, PUT, OPEN, CLOSE, DROP, accepted, refused}
 use Rattle.reference.specs.SheetS.{sheetS, periodS, offeredEverywhere}
 use Rattle.unlike.specs.SheetU.{lonePair}
-use Rattle.worked.specs.Worked.{quarter, answersTo}
+use Rattle.worked.specs.Worked.{answersTo}
 
 -- sheet S with another number in one field, and for another period
 abbrev pub withField : ℕ → ℕ → Sheet

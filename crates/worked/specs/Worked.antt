@@ -2,9 +2,7 @@
 -- Assumes nothing.
 use mathlib.Core.Path.{_≡_}
 use mathlib.Core.List.{List, [], _∷_}
-use Prim.Native.Nat.{ℕ}
 use lib.IntN.{pos}
-use Rattle.calendar.specs.declared.Period.{Period}
 use Rattle.book.specs.Calls.{Sheet, Record, Call, SET, PUT, OPEN, CLOSE, DROP, Answer, accepted, opened, refused, over}
 use Rattle.book.specs.Book.{fresh, bookAfter}
 use Rattle.queries.specs.Queries.{quotation, quoteOf}

@@ -1,6 +1,6 @@
 -- `benchmark::figure_at` meets its contract. A benchmark is at most 2,400,000,000 and fits 32 bits.
 -- Assumes nothing.
-use mathlib.Core.Path.{_≡_, sym, _∙_}
+use mathlib.Core.Path.{sym, _∙_}
 use Prim.Native.Nat.{_%_}
 use native.Mathlib.Omega.{arith}
 use Rattle.benchmark.proofs.Commons.{figure-parts, common-at-most}

@@ -1,6 +1,6 @@
 -- `cap::corner` meets its contract: a step of sound tiers is below 10,000.
 -- Assumes nothing.
-use mathlib.Core.Path.{_≡_, refl, sym, _∙_}
+use mathlib.Core.Path.{sym, _∙_}
 use native.Mathlib.Omega.{arith}
 use borrow.Author.Tests.{lt-ltb, le-ltb}
 use Rattle.cap.proofs.Candidates.{step-most}

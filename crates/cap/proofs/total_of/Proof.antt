@@ -1,10 +1,10 @@
 -- `cap::total_of` meets its contract. The invariant: what is summed, with the months that are left, comes to the whole.
 -- Assumes nothing.
 use mathlib.Core.Path.{_≡_, refl}
-use Prim.Native.Nat.{ℕ, _+_, _-_, _*_, _≤_, _<_}
+use Prim.Native.Nat.{_+_, _-_, _≤_}
 use native.Mathlib.Nat.{zero-add}
 use native.Mathlib.Omega.{arith}
-use lib.ListN.{length, getD, drop}
+use lib.ListN.{length, drop}
 use Rattle.laws.specs.Notions.{sum}
 use Rattle.laws.proofs.Sums.{sum-most}
 use Rattle.laws.proofs.Parts.{sum-next, sum-end}

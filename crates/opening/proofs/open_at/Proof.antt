@@ -5,7 +5,6 @@ use mathlib.Core.Path.{_≡_, refl, sym, _∙_, ap}
 use mathlib.Core.Bool.{true}
 use native.Mathlib.Omega.{arith}
 use Rattle.refusal.specs.declared.Check.the-variants.{Pass}
-use Rattle.benchmark.specs.Lawful.{Lawful}
 use Rattle.book.specs.declared.State.the-variants.{Open}
 use Rattle.book.specs.Settling.{codeCheck, emptyCheck, openCheck}
 use Rattle.book.specs.Book.{withState, withPlace}

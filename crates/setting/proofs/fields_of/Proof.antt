@@ -1,10 +1,9 @@
 -- `setting::fields_of` meets its contract. The invariant: the fields passed are copied.
 -- Assumes nothing.
 use mathlib.Core.Path.{_≡_, refl, sym, _∙_}
-use mathlib.Core.List.{List}
 use Prim.Native.Nat.{ℕ, _-_, _≤_, _<_}
 use native.Mathlib.Omega.{arith}
-use lib.ListN.{length, getD, set, length-set}
+use lib.ListN.{length, getD, length-set}
 use lib.Seq.{ext-getD}
 use Rattle.laws.proofs.Filled.{filled-more}
 use borrow.Author.Needs.{needs}

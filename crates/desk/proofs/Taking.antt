@@ -1,15 +1,18 @@
--- Laws of lines taken from a list of bytes, and of what is kept of it.
+-- Laws of lines taken from a list of bytes, of what is kept of it and read behind it, and of turns.
 -- Assumes nothing.
 use mathlib.Core.Path.{_≡_, refl, sym, _∙_, ap, subst}
 use mathlib.Core.Bool.{Bool, true, false, cond, _||_}
 use mathlib.Core.List.{List, [], _∷_, _++_}
-use Prim.Native.Nat.{ℕ, zero, suc, _+_, _-_, _<_, _≤_}
+use Prim.Native.Nat.{ℕ, zero, suc, _+_, _-_, _^_, _<_, _≤_}
 use native.Mathlib.Nat.{le-of-suc-le-suc}
 use native.Mathlib.Omega.{arith}
-use lib.Dec.{eqb, ltb}
-use lib.ListN.{length, getD, take, drop, set}
-use lib.Seq.{length-take-le, ext-getD, getD-take, getD-drop, take-add, drop-drop, drop-cons, take-set-le}
-use borrow.Author.Tests.{eqb-true, eqb-false, ltb-false, lt-ltb}
+use lib.Dec.{eqb, ltb, leb, leb·suc-suc}
+use lib.IntN.{ℤ, pos, negsuc}
+use lib.ListN.{length, getD, take, drop}
+use lib.Seq.{length-take-le, ext-getD, getD-take, getD-drop, take-add, take-take, drop-drop, drop-cons}
+use borrow.Author.Tests.{eqb-true, leb-true, ltb-true, ltb-false, lt-ltb, le-ltb}
+use Rattle.laws.proofs.Every.{and-left, and-right}
+use Rattle.libc.specs.Io.{Moved}
 use Rattle.bytes.specs.Bytes.{indexOf, indexAfter}
 use Rattle.book.specs.declared.Book.{Book}
 use Rattle.book.specs.Book.{Reachable}
@@ -20,7 +23,7 @@ use Rattle.protocol.specs.Lines.{lineAt, between}
 use Rattle.protocol.proofs.Parts.{length-between}
 use Rattle.desk.specs.declared.Input.{Input}
 use Rattle.desk.specs.declared.Desk.{Desk}
-use Rattle.desk.specs.Desk.{NoFeed, Takes, none, more, Keeps, Reads, isLeft, Closes, Steady}
+use Rattle.desk.specs.Desk.{hasFeed, Takes, none, more, hasRoom, Holds, Keeps, isLeft, stopped, AfterRead, Reads, afterWrite, Flushes, Turns, Steady, Turned, turn-more}
 
 -- a list that begins with the bytes between two places
 pub front-is : (xs ys : List ℕ) (from to : ℕ) → to ≤ length xs → length ys ≡ length xs
@@ -61,23 +64,44 @@ index-at b (x ∷ xs) h = go (eqb x b) refl (index-at b xs) h
     go true e later k = eqb-true x b e
     go false e later k = later (le-of-suc-le-suc k)
 
-index-before : (b : ℕ) (xs : List ℕ) (i : ℕ) → i < indexOf b xs → getD xs i 0 ≡ b → ⊥
-unfolding indexOf indexAfter
-index-before b [] i h e = absurd (omega arith)
-index-before b (x ∷ xs) i h e = go (eqb x b) refl (index-before b xs) i h e
+-- a line feed is among bytes where the place of the first is inside them, and none stands before it
+has-feed : (xs : List ℕ) → hasFeed xs ≡ ltb (indexOf 10 xs) (length xs)
+unfolding hasFeed indexOf indexAfter
+has-feed [] = refl
+has-feed (x ∷ xs) = go (eqb x 10) (has-feed xs)
   where
-    go : (t : Bool) → eqb x b ≡ t → ((j : ℕ) → j < indexOf b xs → getD xs j 0 ≡ b → ⊥)
-        → (j : ℕ) → j < indexAfter t (indexOf b xs) → getD (x ∷ xs) j 0 ≡ b → ⊥
-    go true q later j k f = omega arith
-    go false q later zero k f = eqb-false x b q f
-    go false q later (suc j) k f = later j (le-of-suc-le-suc k) f
+    go : (t : Bool) → hasFeed xs ≡ ltb (indexOf 10 xs) (length xs) → (t || hasFeed xs) ≡ ltb (indexAfter t (indexOf 10 xs)) (suc (length xs))
+    go true later = sym (lt-ltb zero (suc (length xs)) (omega arith))
+    go false later = later ∙ sym (leb·suc-suc (suc (indexOf 10 xs)) (length xs))
+
+before-feed : (xs : List ℕ) → hasFeed (take (indexOf 10 xs) xs) ≡ false
+unfolding hasFeed indexOf indexAfter
+before-feed [] = refl
+before-feed (x ∷ xs) = go (eqb x 10) refl (before-feed xs)
+  where
+    go : (t : Bool) → eqb x 10 ≡ t → hasFeed (take (indexOf 10 xs) xs) ≡ false → hasFeed (take (indexAfter t (indexOf 10 xs)) (x ∷ xs)) ≡ false
+    go true e later = refl
+    go false e later = ap (λ t. t || hasFeed (take (indexOf 10 xs) xs)) e ∙ later
 
 -- a line's end that was found: no line feed before it, and one there unless the bytes end
-pub no-feed : (xs : List ℕ) (from to end : ℕ) → to ≤ length xs → end ≤ to → end ≡ from + indexOf 10 (between xs from to) → NoFeed (between xs from end)
-no-feed xs from to end h k e i l f =
-    let n : i < end - from = omega (arith, length-between xs from end (omega arith)) in
-    index-before 10 (between xs from to) i (omega arith)
-    (getD-take (to - from) (drop from xs) i 0 (omega arith) ∙ sym (getD-take (end - from) (drop from xs) i 0 n) ∙ f)
+no-feed : (xs : List ℕ) (from to end : ℕ) → end ≤ to → end ≡ from + indexOf 10 (between xs from to) → hasFeed (between xs from end) ≡ false
+no-feed xs from to end k e =
+    let i = indexOf 10 (between xs from to) in
+    let n : end - from ≡ i = omega arith in
+    ap (λ j. hasFeed (take j (drop from xs))) n
+    ∙ ap hasFeed (sym (take-take i (to - from) (drop from xs) (omega arith)))
+    ∙ before-feed (between xs from to)
+
+pub feed-left : (xs : List ℕ) (from to end : ℕ) → to ≤ length xs → from ≤ end → end ≡ from + indexOf 10 (between xs from to)
+    → hasFeed (between xs from to) ≡ ltb end to
+feed-left xs from to end h k e = has-feed (between xs from to) ∙ go (ltb end to) refl
+  where
+    i : ℕ
+    i = indexOf 10 (between xs from to)
+
+    go : (t : Bool) → ltb end to ≡ t → ltb i (length (between xs from to)) ≡ ltb end to
+    go true q = lt-ltb i (length (between xs from to)) (omega (arith, ltb-true end to q, length-between xs from to h)) ∙ sym q
+    go false q = le-ltb i (length (between xs from to)) (omega (arith, ltb-false end to q, length-between xs from to h)) ∙ sym q
 
 feed-at : (xs : List ℕ) (from to end : ℕ) → to ≤ length xs → end < to → end ≡ from + indexOf 10 (between xs from to) → getD xs end 0 ≡ 10
 feed-at xs from to end h k e =
@@ -95,6 +119,11 @@ line-more xs start from to end h k l e =
     between-split xs start end (end + 1) (omega arith) (omega arith)
     ∙ ap (λ ys. ys ++ between xs end (end + 1)) (between-split xs start from end k (omega arith))
     ∙ ap (λ ys. between xs start from ++ between xs from end ++ ys) (between-one xs end (omega arith) ∙ ap (λ b. b ∷ []) (feed-at xs from to end h l e))
+
+-- room for an answer and a number for its line
+pub room-yes : (at size l : ℕ) → hasRoom at size l ≡ true → (at + 344 ≤ size) × (l + 1 < 2 ^ 64)
+room-yes at size l e =
+    (leb-true (at + 344) size (and-left _ (ltb (l + 1) (2 ^ 64)) e), ltb-true (l + 1) (2 ^ 64) (and-right (leb (at + 344) size) _ e))
 
 -- what the loop of `take_lines` has done so far
 pub record Sofar (b : Book) (lines : ℕ) (i : Input) (input before after : List ℕ) (book : Book) (from : ℕ) (cut : Bool) (l at end : ℕ) : Type 0 where
@@ -135,7 +164,7 @@ module _ (b : Book) (lines : ℕ) (i : Input) (input before : List ℕ) (fits : 
       record {
         text = s .text ++ lineAt book (l + 1) cut line .text;
         takes = rw (line-more input (i .from) from (i .to) end fits (s .passed) k (s .found), e)
-            (more line (s .takes) (no-feed input from (i .to) end fits (s .inside) (s .found)));
+            (more line (s .takes) (no-feed input from (i .to) end (s .inside) (s .found)));
         written = behind (s .written) w;
         reachable = r;
         passed = omega (arith, s .passed, s .order);
@@ -173,22 +202,29 @@ left-some i h = go (i .cut)
     go true = refl
     go false = some
 
--- a line feed behind what is left leaves it as it was
-pub closes-reads : (i : Input) (before : List ℕ) (r : Input) (after : List ℕ) → Closes i before r after → i .to < length before → Reads i before r after
-closes-reads i before r after k h =
-    record {
-      cut = ap (λ x. x .cut) (k .input);
-      from = ap (λ x. x .from) (k .input);
-      grown = omega (arith, ap (λ x. x .to) (k .input), go (isLeft i) .0);
-      inside = omega (arith, ap (λ x. x .to) (k .input), go (isLeft i) .1);
-      bytes = ap (take (i .to)) (k .bytes) ∙ go (isLeft i) .2;
-    }
+-- an input of which reading, or a failure, leaves the bounds within the buffer
+pub stopped-holds : {i : Input} {n : ℕ} → Holds i n → Holds (stopped i) n
+stopped-holds h = record { ordered = h .ordered; inside = h .inside }
+
+pub flushed-holds : {i r : Input} {n : ℕ} → Flushes i r → Holds i n → Holds r n
+flushed-holds {i} {r} {n} f h = subst (λ x. Holds x n) (sym (f .input)) (go (f .written))
   where
-    go : (t : Bool)
-        → (i .to ≤ cond t (i .to + 1) (i .to)) × (cond t (i .to + 1) (i .to) ≤ length before)
-        × (take (i .to) (cond t (set before (i .to) 10) before) ≡ take (i .to) before)
-    go true = (omega arith, omega arith, take-set-le (i .to) before (i .to) 10 (omega arith))
-    go false = (omega arith, omega arith, refl)
+    go : (t : Bool) → Holds (afterWrite t i) n
+    go true = h
+    go false = stopped-holds h
+
+pub reads-within : (i : Input) (before : List ℕ) (r : Input) (after : List ℕ) → Reads i before r after → i .to < length before
+    → (r .from ≡ i .from) × (r .to ≤ length before)
+reads-within i before r after k h = go (k .got) (k .moved) (k .answered)
+  where
+    closes : (t : Bool) → cond t (i .to + 1) (i .to) ≤ length before
+    closes true = omega arith
+    closes false = omega arith
+
+    go : (got : ℤ) → Moved (length (k .into) - i .to) got → AfterRead got i (k .into) r after → (r .from ≡ i .from) × (r .to ≤ length before)
+    go (negsuc n) m e = (ap (λ x. x .from) (e .0), omega (arith, ap (λ x. x .to) (e .0)))
+    go (pos zero) m e = (ap (λ x. x .from) (e .input), omega (arith, ap (λ x. x .to) (e .input), closes (isLeft i)))
+    go (pos (suc n)) m e = (ap (λ x. x .from) (e .0), omega (arith, m, k .size, ap (λ x. x .to) (e .0)))
 
 -- a steady desk, by other names of the lengths
 pub steady-as : {d : Desk} {i j n m o p : ℕ} → i ≡ j → n ≡ m → o ≡ p → Steady d i n o → Steady d j m p
@@ -201,3 +237,8 @@ steady-as a b c s =
       numbers-size = sym b ∙ s .numbers-size;
       out-size = sym c ∙ s .out-size;
     }
+
+-- one turn more, by another name of their count
+pub turned-more : {d₀ d d′ : Desk} {input₀ out₀ input out input′ out′ : List ℕ} {n m : ℕ} → m ≡ n + 1 → Turned d₀ input₀ out₀ n d input out
+    → d .input .on ≡ true → Turns d input out d′ input′ out′ → Turned d₀ input₀ out₀ m d′ input′ out′
+turned-more e t on u = rw e (turn-more t on u)

@@ -1,15 +1,18 @@
 // The desk: reads calls from standard input, one a line, and writes one answer a line to standard output.
-// Promise: `take_lines` takes whole lines of the bytes that were read and answers each of them as the protocol says (`Takes` of
-// specs/Desk.antt, over `lineAt` of protocol/specs/Lines.antt), and each turn goes on with the book of the turn before (`turn`). Nothing of
-// an unfinished line is lost between two reads unless it is too long (`keep`, `read_more`), and at the end of the input what is left
-// is a line (`close_input`). Bytes go in and out by `read_more` and `flush` alone; no contract can say which.
+// Promise (specs/Desk.antt): `run` is turn after turn from `atStart`, until the desk does not go on (`Runs`). A turn (`Turns`) writes the
+// answers out, reads more where no whole line is left (`Fills`), and takes whole lines, each answered as the protocol says (`Took`, over
+// `lineAt` of protocol/specs/Lines.antt), on the book and the count of lines of the turn before. Nothing of an unfinished line is lost
+// between two reads unless it is too long (`Keeps`), and at the end of the input what is left is a line (`Closes`).
+// No contract can say which bytes the system's `read` and `write` move, nor what they answer. So it is left to a reader of `read_more`
+// and `flush`, which alone call them, that the one reads standard input into the place behind what was kept, that the other writes the
+// first `at` bytes of the output, and that each hands the answer on to `after_read` or `after_write`; those two are proved.
 ghost use mathlib.Core.Path.{_≡_};
-ghost use mathlib.Core.Bool.{true, false};
-ghost use Prim.Native.Nat.{_+_, _-_, _^_, _≤_, _<_};
+ghost use Prim.Native.Nat.{_-_, _≤_, _<_};
 ghost use lib.ListN.{length, take};
+ghost use Rattle.libc.specs.Io.{Moved};
 ghost use Rattle.book.specs.Book.{Reachable};
 ghost use Rattle.protocol.specs.Lines.{between};
-ghost use Rattle.desk.specs.Desk.{Holds, Took, atFront, Keeps, Reads, Closes, Turns, Steady};
+ghost use Rattle.desk.specs.Desk.{hasRoom, Holds, Took, atFront, Keeps, Closes, stopped, AfterRead, Reads, Fills, afterWrite, Flushes, Steady, Turns, atStart, Runs};
 use book::Book;
 use protocol::Said;
 
@@ -34,7 +37,7 @@ pub struct Desk {
 
 // Whether there is room for another answer behind `at` in the output, and a number for another line.
 fn room(at: usize, size: usize, l: u64) -> bool
-    ensures { λ r. ⌜ (r ≡ true → (at + 344 ≤ size) × (l + 1 < 2 ^ 64)) ⌝ }
+    ensures { λ r. ⌜ r ≡ hasRoom at size l ⌝ }
 {
     if size < 344 {
         return false;
@@ -110,6 +113,7 @@ fn to_front(input: &mut [u8], from: usize, to: usize)
     }
 }
 
+// The input with other bytes, which begin at the front.
 fn at_front(i: Input, to: usize, cut: bool) -> Input
     ensures { λ r. ⌜ r ≡ atFront i to cut ⌝ }
 {
@@ -155,30 +159,50 @@ fn close_input(i: Input, input: &mut [u8]) -> Input
     r
 }
 
+// The desk does not go on.
+fn stop(i: Input) -> Input
+    ensures { λ r. ⌜ r ≡ stopped i ⌝ }
+{
+    let mut r = i;
+    r.on = false;
+    r
+}
+
+// What the system answered to `read`: below 0 that it failed, 0 that the input has ended, or how many bytes it put behind what was kept.
+fn after_read(i: Input, got: isize, input: &mut [u8]) -> Input
+    requires { ⌜ (i .to < length (now input)) × Moved (length (now input) - i .to) got ⌝ }
+    ensures { λ r. ⌜ AfterRead got i (now (input .entry)) r (now (input .exit)) ⌝ }
+{
+    if got < 0 {
+        return stop(i);
+    }
+    let left = i.to;
+    let n = io::count(got, &input[left..]);
+    if n == 0 {
+        return close_input(i, input);
+    }
+    let mut r = i;
+    r.to = left + n;
+    r
+}
+
 // Reads what is there, behind what was kept.
 fn read_more(i: Input, input: &mut [u8]) -> Input
     requires { ⌜ i .to < length (now input) ⌝ }
     ensures { λ r. ⌜ Reads i (now (input .entry)) r (now (input .exit)) ⌝ }
 {
-    let mut r = i;
     let left = i.to;
     let got = libc::read(0, &mut input[left..]);
     if got < 0 {
         io::write_all(2, b"desk: standard input cannot be read\n");
-        r.on = false;
-        return r;
     }
-    let n = io::count(got, &input[left..]);
-    if n == 0 {
-        return close_input(i, input);
-    }
-    r.to = left + n;
-    r
+    after_read(i, got, input)
 }
 
 // More of the input, where no whole line is left of it.
 fn fill(i: Input, input: &mut [u8]) -> Input
     requires { ⌜ Holds i (length (now input)) × (length (now input) ≡ 65536) ⌝ }
+    ensures { λ r. ⌜ Fills i (now (input .entry)) r (now (input .exit)) ⌝ }
     ensures { λ r. ⌜ Holds r (length (now (input .entry))) ⌝ }
 {
     if !i.on {
@@ -188,31 +212,37 @@ fn fill(i: Input, input: &mut [u8]) -> Input
         return i;
     }
     if i.ended {
-        let mut r = i;
-        r.on = false;
-        return r;
+        return stop(i);
     }
     read_more(keep(i, input), input)
 }
 
-// Writes the answers out. Where that fails the desk does not go on.
-fn flush(i: Input, out: &[u8], at: usize) -> Input
-    requires { ⌜ at ≤ length (now out) ⌝ }
-    ensures { λ r. ⌜ (r .from ≡ i .from) × (r .to ≡ i .to) ⌝ }
+// Where the answers could not be written out the desk does not go on.
+fn after_write(i: Input, written: bool) -> Input
+    ensures { λ r. ⌜ r ≡ afterWrite written i ⌝ }
 {
-    if io::write_all(1, &out[..at]) {
+    if written {
         return i;
     }
-    io::write_all(2, b"desk: standard output cannot be written\n");
-    let mut r = i;
-    r.on = false;
-    r
+    stop(i)
+}
+
+// Writes the answers out.
+fn flush(i: Input, out: &[u8], at: usize) -> Input
+    requires { ⌜ at ≤ length (now out) ⌝ }
+    ensures { λ r. ⌜ Flushes i r ⌝ }
+{
+    let written = io::write_all(1, &out[..at]);
+    if !written {
+        io::write_all(2, b"desk: standard output cannot be written\n");
+    }
+    after_write(i, written)
 }
 
 // A turn: the answers are written out before more is read, and more lines are taken.
 fn turn(d: Desk, input: &mut [u8], numbers: &mut [u32], out: &mut [u8]) -> Desk
     requires { ⌜ Steady d (length (now input)) (length (now numbers)) (length (now out)) ⌝ }
-    ensures { λ r. ⌜ Turns d (now (input .exit)) (now (out .entry)) r (now (out .exit)) ⌝ }
+    ensures { λ r. ⌜ Turns d (now (input .entry)) (now (out .entry)) r (now (input .exit)) (now (out .exit)) ⌝ }
     ensures { λ r. ⌜ Steady r (length (now (input .entry))) (length (now (numbers .entry))) (length (now (out .entry))) ⌝ }
 {
     let i = fill(flush(d.input, out, d.at), input);
@@ -220,11 +250,11 @@ fn turn(d: Desk, input: &mut [u8], numbers: &mut [u32], out: &mut [u8]) -> Desk
     take_lines(b, d.lines, i, input, numbers, out)
 }
 
-// A proved loop has to end, and nothing says that the input does: so the turns are counted down, from a number that no run uses up.
-fn run(input: &mut [u8], numbers: &mut [u32], out: &mut [u8])
-    requires { ⌜ (length (now input) ≡ 65536) × (length (now numbers) ≡ 16384) × (length (now out) ≡ 65536) ⌝ }
+// Nothing is read yet, and no line taken.
+fn start() -> Desk
+    ensures { λ r. ⌜ r ≡ atStart ⌝ }
 {
-    let mut d = Desk {
+    Desk {
         book: book::fresh_book(),
         lines: 0,
         at: 0,
@@ -236,12 +266,22 @@ fn run(input: &mut [u8], numbers: &mut [u32], out: &mut [u8])
             ended: false,
             on: true,
         },
-    };
+    }
+}
+
+// Turn after turn, as long as the desk goes on; what it ends with. A proved loop has to end, and nothing says that the input does: so the
+// turns are counted down, from a number that no run uses up.
+fn run(input: &mut [u8], numbers: &mut [u32], out: &mut [u8]) -> Desk
+    requires { ⌜ (length (now input) ≡ 65536) × (length (now numbers) ≡ 16384) × (length (now out) ≡ 65536) ⌝ }
+    ensures { λ r. ⌜ Runs (now (input .entry)) (now (out .entry)) r (now (input .exit)) (now (out .exit)) ⌝ }
+{
+    let mut d = start();
     let mut turns = u64::MAX;
     while turns > 0 && d.input.on {
         d = turn(d, input, numbers, out);
         turns -= 1;
     }
+    d
 }
 
 // A place for each number of a line.

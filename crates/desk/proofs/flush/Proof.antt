@@ -12,17 +12,17 @@ slice-aggregate-write-all c = sym (length-take-le _ _ (c .before .before .pre))
 write-all-requires : tie.Need-write-all-requires
 write-all-requires c κs = search needs
 
-returns : tie.Need-returns
-returns c = search needs
-
 slice-aggregate-write-all-2 : tie.Need-slice-aggregate-write-all-2
 slice-aggregate-write-all-2 c = search needs
 
 write-all-requires-2 : tie.Need-write-all-requires-2
 write-all-requires-2 c κs = search needs
 
-returns-2 : tie.Need-returns-2
-returns-2 c = search needs
+after-write-requires : tie.Need-after-write-requires
+after-write-requires c κs = search needs
+
+returns : tie.Need-returns
+returns c = search needs
 
 pub flush-spec : {M : Type 1} → statement M
 flush-spec =
@@ -30,7 +30,7 @@ flush-spec =
     (tie.spec
     slice-aggregate-write-all
     write-all-requires
-    returns
     slice-aggregate-write-all-2
     write-all-requires-2
-    returns-2)
+    after-write-requires
+    returns)

@@ -1,14 +1,40 @@
 -- `desk::read_more` meets its contract: what stands before the part that is read into is as it was.
 -- Assumes nothing.
-use mathlib.Core.Path.{refl, _∙_}
-use Prim.Native.Nat.{_-_}
+use mathlib.Core.Path.{_≡_, sym, _∙_, ap, subst}
+use mathlib.Core.List.{List}
+use Prim.Native.Nat.{ℕ, _-_}
 use native.Mathlib.Omega.{arith}
-use lib.ListN.{length}
-use borrow.Rule.Slice.PartMut.{same-len-mid, take-put}
-use borrow.Author.Needs.{needs}
-use Rattle.desk.proofs.Taking.{closes-reads}
+use lib.ListN.{length, take}
+use mir.Facts.{toZ-ofZ}
+use borrow.Rule.Slice.PartMut.{putMid, same-len-mid, mid-len, take-put}
+use borrow.Author.Needs.{needs, sfits-of}
+use Rattle.libc.specs.Io.{Moved}
 use Rattle.desk.proofs.read_more.Statement.{statement}
 use Rattle.desk.proofs.read_more.Tie as tie
+
+-- the buffer as the system leaves it: it has its length, and the bytes before the part that is read into
+abbrev into : tie.After-read → List ℕ
+into c =
+    let st = c .before .before .before in
+    putMid (st .args .i .to) (length (st .args .input .now) - st .args .i .to) (st .args .input .now) (c .read .last .1 .0)
+
+into-size : (c : tie.After-read) → length (into c) ≡ length (c .before .before .before .args .input .now)
+into-size c =
+    let st = c .before .before .before in
+    same-len-mid (st .args .i .to) (length (st .args .input .now) - st .args .i .to) (st .args .input .now) (c .read .last .1 .0) (c .read .kept .1 .0)
+
+into-bytes : (c : tie.After-read)
+    → let st = c .before .before .before in take (st .args .i .to) (into c) ≡ take (st .args .i .to) (st .args .input .now)
+into-bytes c =
+    let st = c .before .before .before in
+    take-put (st .args .i .to) (length (st .args .input .now) - st .args .i .to) (st .args .input .now) (c .read .last .1 .0) (omega arith)
+
+into-moved : (c : tie.After-read) → Moved (length (into c) - c .before .before .before .args .i .to) (c .read .result)
+into-moved c =
+    let st = c .before .before .before in
+    subst (λ n. Moved n (c .read .result))
+    (mid-len (st .args .i .to) (length (st .args .input .now)) (st .args .input .now) (omega arith) ∙ ap (λ n. n - st .args .i .to) (sym (into-size c)))
+    (c .read .ensures)
 
 sub-read : tie.Need-sub-read
 sub-read c = search needs
@@ -28,58 +54,25 @@ slice-aggregate-write-all c = search needs
 write-all-requires : tie.Need-write-all-requires
 write-all-requires c κs = search needs
 
+after-read-requires : tie.Need-after-read-requires
+after-read-requires c κs =
+    let p = c .before .before .before .before in
+    (omega (arith, into-size p), rw (toZ-ofZ (sfits-of (p .read .ok))) (into-moved p))
+
 same-length : tie.Need-same-length
 same-length c = search needs
 
 returns : tie.Need-returns
 returns c =
-    let st = c .before .before .before .before .before .before .before .before in
-    record { cut = refl; from = refl; grown = omega arith; inside = omega arith; bytes = take-put (st .args .i .to) (length (st .args .input .now) - st .args .i .to) (st .args .input .now) (c .before .before .before .before .before .read .last .1 .0) (omega arith) }
-
-sub-count : tie.Need-sub-count
-sub-count c = search needs
-
-part-count-start : tie.Need-part-count-start
-part-count-start c = search needs
-
-part-count-end : tie.Need-part-count-end
-part-count-end c = search needs
-
-count-requires : tie.Need-count-requires
-count-requires c κs = search needs
-
-close-input-requires : tie.Need-close-input-requires
-close-input-requires c κs = search needs
-
-same-length-2 : tie.Need-same-length-2
-same-length-2 c = search needs
-
-returns-2 : tie.Need-returns-2
-returns-2 c =
-    let st = c .before .before .before .before .before .before .before .before .before .before .before .before .before .before in
-    let to = st .args .i .to in
-    let input = st .args .input .now in
-    let part = c .before .before .before .before .before .before .before .before .before .before .before .read .last .1 .0 in
-    let size = same-len-mid to (length input - to) input part (c .before .before .before .before .before .before .before .before .before .before .before .read .kept .1 .0) in
-    let e = closes-reads _ _ _ _ (c .before .before .close-input .ensures) (omega (arith, size)) in
+    let p = c .before .before .before .before .before .before .before in
     record {
-      cut = e .cut;
-      from = e .from;
-      grown = e .grown;
-      inside = omega (arith, e .inside, size);
-      bytes = e .bytes ∙ take-put to (length input - to) input part (omega arith);
+      got = p .read .result;
+      into = into p;
+      size = into-size p;
+      bytes = into-bytes p;
+      moved = into-moved p;
+      answered = rw (toZ-ofZ (sfits-of (p .read .ok))) at (c .before .before .after-read .ensures);
     }
-
-add-r : tie.Need-add-r
-add-r c = search needs
-
-same-length-3 : tie.Need-same-length-3
-same-length-3 c = search needs
-
-returns-3 : tie.Need-returns-3
-returns-3 c =
-    let st = c .before .before .before .before .before .before .before .before .before .before in
-    record { cut = refl; from = refl; grown = omega arith; inside = search needs; bytes = take-put (st .args .i .to) (length (st .args .input .now) - st .args .i .to) (st .args .input .now) (c .before .before .before .before .before .before .before .read .last .1 .0) (omega arith) }
 
 pub read-more-spec : {M : Type 1} → statement M
 read-more-spec =
@@ -91,15 +84,6 @@ read-more-spec =
     read-requires
     slice-aggregate-write-all
     write-all-requires
+    after-read-requires
     same-length
-    returns
-    sub-count
-    part-count-start
-    part-count-end
-    count-requires
-    close-input-requires
-    same-length-2
-    returns-2
-    add-r
-    same-length-3
-    returns-3)
+    returns)

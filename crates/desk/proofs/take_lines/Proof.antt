@@ -1,18 +1,19 @@
 -- `desk::take_lines` meets its contract: at each turn the lines taken so far are answered as their definition says.
 -- Assumes nothing.
-use mathlib.Core.Path.{_≡_, refl, sym, _∙_, ap, subst}
+use mathlib.Core.Path.{_≡_, refl, sym, _∙_, ap}
+use mathlib.Core.Bool.{true}
 use mathlib.Core.Logic.{⊎-elim}
-use Prim.Native.Nat.{_+_, _-_}
+use Prim.Native.Nat.{_+_, _-_, _^_, _≤_, _<_}
 use native.Mathlib.Omega.{arith}
 use lib.ListN.{length}
 use lib.Seq.{length-take-le}
-use borrow.Author.Tests.{ltb-false}
+use borrow.Author.Tests.{ltb-true}
 use Rattle.answers.proofs.Writing.{kept}
 use Rattle.protocol.specs.declared.Said.the-variants.{Do}
 use Rattle.protocol.specs.Lines.{Line, lineAt, between}
 use Rattle.protocol.specs.Said.{Answered, Says}
-use Rattle.desk.specs.Desk.{NoFeed}
-use Rattle.desk.proofs.Taking.{no-feed, Sofar, sofar-none, sofar-more}
+use Rattle.desk.specs.Desk.{hasRoom}
+use Rattle.desk.proofs.Taking.{feed-left, room-yes, Sofar, sofar-none, sofar-more}
 use Rattle.desk.proofs.take_lines.Statement.{statement}
 use Rattle.desk.proofs.take_lines.Tie as tie
 
@@ -46,6 +47,10 @@ line-done c =
     rw (w .9, w .10, w .11, says .0) (rw (says .3) at (w .5 .ensures)))
     (c .match .came)
 
+-- room for its answer
+room-for : (c : tie.After-room Inv-loop μ-loop) → c .room .result ≡ true → (c .before .before .loop .at + 344 ≤ length (c .before .before .loop .out)) × (c .before .before .loop .l + 1 < 2 ^ 64)
+room-for c e = room-yes _ _ _ (sym (c .room .ensures) ∙ e)
+
 line-end-requires : tie.Need-line-end-requires Inv-loop μ-loop
 line-end-requires c κs = (c .before .before .before .pre .1 .ordered, c .before .before .before .pre .1 .inside)
 
@@ -58,13 +63,13 @@ room-requires : tie.Need-room-requires Inv-loop μ-loop
 room-requires c κs = tt
 
 add-l : tie.Need-add-l Inv-loop μ-loop
-add-l c = record { fits = c .before .room .ensures (c .if1 .taken) .1 }
+add-l c = record { fits = room-for (c .before) (c .if1 .taken) .1 }
 
 say-line-requires : tie.Need-say-line-requires Inv-loop μ-loop
 say-line-requires c κs =
     let p = c .before .before .before .before .before in
     let st = c .before .before .before .before .before .before .before .before .before .before in
-    (p .loop .inv .2 .reachable, p .loop .inv .2 .order, omega (arith, p .loop .inv .2 .inside, st .pre .1 .inside), omega (arith, p .loop .inv .0, st .pre .2), c .before .before .before .room .ensures (c .before .before .if1 .taken) .0)
+    (p .loop .inv .2 .reachable, p .loop .inv .2 .order, omega (arith, p .loop .inv .2 .inside, st .pre .1 .inside), omega (arith, p .loop .inv .0, st .pre .2), room-for (c .before .before .before) (c .before .before .if1 .taken) .0)
 
 enum-known-said : tie.Need-enum-known-said Inv-loop μ-loop
 enum-known-said c = c .match .keys1
@@ -81,7 +86,7 @@ slice-aggregate-do-step c = sym (length-take-le _ _ (asked (c .before) .1))
 do-step-requires : tie.Need-do-step-requires Inv-loop μ-loop
 do-step-requires c κs =
     let a = asked (c .before .before) in
-    (c .before .before .before .before .before .before .before .before .before .before .before .before .before .before .before .loop .inv .2 .reachable, rw (length-take-le (c .before .before .before .said2 .given .0 .1 .0) (c .before .before .before .before .before .before .before .before .before .say-line .last .1 .1 .1 .1 .1 .1 .0) (a .1)) (a .2), omega (arith, ap length (a .3), c .before .before .before .before .before .before .before .before .before .before .before .before .before .room .ensures (c .before .before .before .before .before .before .before .before .before .before .before .before .if1 .taken) .0))
+    (c .before .before .before .before .before .before .before .before .before .before .before .before .before .before .before .loop .inv .2 .reachable, rw (length-take-le (c .before .before .before .said2 .given .0 .1 .0) (c .before .before .before .before .before .before .before .before .before .say-line .last .1 .1 .1 .1 .1 .1 .0) (a .1)) (a .2), omega (arith, ap length (a .3), room-for (c .before .before .before .before .before .before .before .before .before .before .before .before .before) (c .before .before .before .before .before .before .before .before .before .before .before .before .if1 .taken) .0))
 
 add-from : tie.Need-add-from Inv-loop μ-loop
 add-from c = omega (arith, c .before .before .before .before .before .before .before .before .before .before .loop-test .taken, c .before .before .before .before .before .before .before .before .before .before .before .before .before .before .before .before .pre .1 .inside, c .before .before .before .before .before .before .before .before .before .before .before .before .before .before .before .before .good)
@@ -122,9 +127,12 @@ returns c =
       written = s .written;
       reachable = s .reachable;
       holds = record { ordered = omega (arith, s .order, s .inside); inside = st .pre .1 .inside };
-      whole = λ e.
-          let q : p .loop .end ≡ to = omega (arith, ltb-false (p .loop .end) to e, s .inside) in
-          subst (λ k. NoFeed (between input (p .loop .from) k)) q (no-feed input (p .loop .from) to (p .loop .end) (st .pre .1 .inside) (s .inside) (s .found));
+      left = rw (feed-left input (p .loop .from) to (p .loop .end) (st .pre .1 .inside) (s .order) (s .found)) refl;
+      full = λ e.
+          ⊎-elim
+          (λ w. ap (λ n. hasRoom (p .loop .at) n (p .loop .l)) (sym (p .loop .inv .1)) ∙ sym (w .1 .ensures) ∙ w .2 .left)
+          (λ w. absurd (omega (arith, ltb-true (p .loop .end) to e, w .left)))
+          (c .loop-test .came);
     }
 
 pub take-lines-spec : {M : Type 1} → statement M

@@ -1,6 +1,7 @@
 -- `desk::turn` meets its contract: what is read, and what is taken, leaves a steady desk.
 -- Assumes nothing.
 use borrow.Author.Needs.{needs}
+use Rattle.desk.proofs.Taking.{flushed-holds}
 use Rattle.desk.proofs.turn.Statement.{statement}
 use Rattle.desk.proofs.turn.Tie as tie
 
@@ -8,7 +9,9 @@ flush-requires : tie.Need-flush-requires
 flush-requires c κs = search needs
 
 fill-requires : tie.Need-fill-requires
-fill-requires c κs = search needs
+fill-requires c κs =
+    let p = c .before .before .before .before .before .before .pre in
+    (flushed-holds (c .before .flush .ensures) (p .holds), p .input-size)
 
 take-lines-requires : tie.Need-take-lines-requires
 take-lines-requires c κs = search needs
@@ -25,8 +28,15 @@ same-length-3 c = search needs
 returns : tie.Need-returns
 returns c =
     let p = c .before .before .before .before .before .before .before .before .before .before .before .before .before .before .before .before .before .before .pre in
+    let f = c .before .before .before .before .before .before .before .before .before .before .before in
     let t = c .before .before .before .before .take-lines .ensures in (
-      record { had = c .before .before .before .before .before .before .before .before .before .before .before .fill .result; took = t },
+      record {
+        flushed = f .before .before .flush .result;
+        flushes = f .before .before .flush .ensures;
+        had = f .fill .result;
+        fills = f .fill .ensures .0;
+        took = t;
+      },
       record {
         reachable = t .reachable;
         holds = rw (c .before .before .before .before .before .before .before .before .before .before .before .fill .kept .1 .0) at (t .holds);

@@ -238,7 +238,8 @@ steady-as a b c s =
       out-size = sym c ∙ s .out-size;
     }
 
--- one turn more, by another name of their count
-pub turned-more : {d₀ d d′ : Desk} {input₀ out₀ input out input′ out′ : List ℕ} {n m : ℕ} → m ≡ n + 1 → Turned d₀ input₀ out₀ n d input out
-    → d .input .on ≡ true → Turns d input out d′ input′ out′ → Turned d₀ input₀ out₀ m d′ input′ out′
-turned-more e t on u = rw e (turn-more t on u)
+-- one turn more, where they are counted down from m
+pub turned-more : {d₀ d d′ : Desk} {input₀ out₀ input out input′ out′ : List ℕ} {m left : ℕ} → left ≤ m → 0 < left
+    → Turned d₀ input₀ out₀ (m - left) d input out → d .input .on ≡ true → Turns d input out d′ input′ out′
+    → Turned d₀ input₀ out₀ (m - (left - 1)) d′ input′ out′
+turned-more {m = m} {left} h k t on u = let e : m - (left - 1) ≡ m - left + 1 = omega arith in rw e (turn-more t on u)

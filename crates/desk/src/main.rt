@@ -192,11 +192,11 @@ fn read_more(i: Input, input: &mut [u8]) -> Input
     ensures { λ r. ⌜ Reads i (now (input .entry)) r (now (input .exit)) ⌝ }
 {
     let left = i.to;
-    let got = libc::read(0, &mut input[left..]);
-    if got < 0 {
+    let answer = libc::read(0, &mut input[left..]);
+    if answer < 0 {
         io::write_all(2, b"desk: standard input cannot be read\n");
     }
-    after_read(i, got, input)
+    after_read(i, answer, input)
 }
 
 // More of the input, where no whole line is left of it.

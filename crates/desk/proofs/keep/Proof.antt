@@ -1,6 +1,8 @@
 -- `desk::keep` meets its contract.
 -- Assumes nothing.
 use mathlib.Core.Path.{refl}
+use Prim.Native.Nat.{_-_}
+use native.Mathlib.Omega.{arith}
 use borrow.Author.Tests.{lt-ltb, le-ltb}
 use borrow.Author.Needs.{needs}
 use Rattle.desk.proofs.keep.Statement.{statement}
@@ -23,7 +25,8 @@ at-front-requires-2 c κs = search needs
 returns-2 : tie.Need-returns-2
 returns-2 c =
     let e = c .at-front2 .ensures in
-    record { long = rw (e, c .before .before .if1 .left, lt-ltb _ _ (c .before .if2 .taken)) refl; input = rw e refl; bytes = rw e refl }
+    let i = c .before .before .before .before .args .i in
+    record { long = rw (e, c .before .before .if1 .left, lt-ltb 16384 (i .to - i .from) (omega arith)) refl; input = rw e refl; bytes = rw e refl }
 
 to-front-requires : tie.Need-to-front-requires
 to-front-requires c κs = search needs
@@ -40,7 +43,8 @@ same-length c = search needs
 returns-3 : tie.Need-returns-3
 returns-3 c =
     let e = c .at-front3 .ensures in
-    record { long = rw (e, c .before .before .before .before .before .before .if1 .left, le-ltb _ _ (c .before .before .before .before .before .if2 .left)) refl; input = rw e refl; bytes = rw e (c .before .before .before .to-front .ensures) }
+    let i = c .before .before .before .before .before .before .before .before .args .i in
+    record { long = rw (e, c .before .before .before .before .before .before .if1 .left, le-ltb 16384 (i .to - i .from) (omega arith)) refl; input = rw e refl; bytes = rw e (c .before .before .before .to-front .ensures) }
 
 pub keep-spec : {M : Type 1} → statement M
 keep-spec =

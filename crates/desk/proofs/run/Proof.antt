@@ -2,7 +2,7 @@
 -- Assumes nothing.
 use mathlib.Core.Path.{_≡_, refl, sym, _∙_}
 use mathlib.Core.Logic.{inl, inr}
-use Prim.Native.Nat.{_+_, _-_, _≤_}
+use Prim.Native.Nat.{_-_, _≤_}
 use native.Mathlib.Omega.{arith}
 use lib.ListN.{length}
 use Rattle.book.proofs.Reached.{fresh-reachable}
@@ -14,8 +14,8 @@ use Rattle.desk.proofs.run.Tie as tie
 abbrev Inv-loop : tie.InvT-loop
 Inv-loop input₀ numbers₀ out₀ d₀ turns₀ input numbers out d turns =
     (length input ≡ length input₀) × (length numbers ≡ length numbers₀) × (length out ≡ length out₀)
-    × Steady d (length input₀) (length numbers₀) (length out₀) × (turns ≤ 18446744073709551615)
-    × Turned atStart input₀ out₀ (18446744073709551615 - turns) d input out
+    × Steady d (length input₀) (length numbers₀) (length out₀) × (turns ≤ turns₀)
+    × Turned atStart input₀ out₀ (turns₀ - turns) d input out
 
 abbrev μ-loop : tie.MeasureT-loop
 μ-loop input₀ numbers₀ out₀ d₀ turns₀ input numbers out d turns = turns
@@ -55,15 +55,13 @@ loop-less c = omega arith
 loop-again : tie.Need-loop-again Inv-loop μ-loop
 loop-again c =
     let i = c .before .before .before .before .before .before .before .before .before .before .before .before .loop .inv in
-    let t = c .before .before .before .before .before .before .turn in
-    let turns = c .before .before .before .before .before .before .before .before .before .before .before .before .loop .turns in
-    let n : 18446744073709551615 - (turns - 1) ≡ 18446744073709551615 - turns + 1 = omega (arith, i .4, c .before .before .before .before .before .before .before .before .before .before .before .loop-test .taken) in (
+    let t = c .before .before .before .before .before .before .turn in (
       t .kept .1 .0 ∙ i .0,
       t .kept .1 .1 .0 ∙ i .1,
       t .kept .1 .1 .1 .0 ∙ i .2,
       steady-as (i .0) (i .1) (i .2) (t .ensures .1),
       omega (arith, i .4),
-      turned-more n (i .5) (c .before .before .before .before .before .before .before .before .before .before .if1 .taken) (t .ensures .0),
+      turned-more (i .4) (omega (arith, c .before .before .before .before .before .before .before .before .before .before .before .loop-test .taken)) (i .5) (c .before .before .before .before .before .before .before .before .before .before .if1 .taken) (t .ensures .0),
     )
 
 same-length : tie.Need-same-length Inv-loop μ-loop
@@ -77,7 +75,7 @@ same-length-3 c = c .before .before .loop .inv .2
 
 returns : tie.Need-returns Inv-loop μ-loop
 returns c =
-    let p = c .before .before .loop in record { turns = 18446744073709551615 - p .turns; turned = p .inv .5; ends = inl (c .if1 .left) }
+    let p = c .before .before .loop in record { turns = _; turned = p .inv .5; ends = inl (c .if1 .left) }
 
 same-length-4 : tie.Need-same-length-4 Inv-loop μ-loop
 same-length-4 c = c .before .loop .inv .0
@@ -91,7 +89,7 @@ same-length-6 c = c .before .loop .inv .2
 returns-2 : tie.Need-returns-2 Inv-loop μ-loop
 returns-2 c =
     let p = c .before .loop in
-    record { turns = 18446744073709551615 - p .turns; turned = p .inv .5; ends = inr (omega (arith, c .loop-test .left)) }
+    record { turns = _; turned = p .inv .5; ends = inr (omega (arith, c .loop-test .left)) }
 
 pub run-spec : {M : Type 1} → statement M
 run-spec =

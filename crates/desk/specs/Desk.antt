@@ -52,6 +52,7 @@ pub record Took (b : Book) (l : ℕ) (i : Input) (input before : List ℕ) (r : 
   pub written : Written before 0 text (r .at) after
   pub reachable : Reachable (r .book)
   pub holds : Holds (r .input) (length input)
+  pub passed : i .from ≤ r .input .from
   pub left : r .input ≡ behindLines i input (r .input .from) (r .input .cut)
   pub full : r .input .more ≡ true → hasRoom (r .at) (length before) (r .lines) ≡ false
 

@@ -127,6 +127,7 @@ returns c =
       written = s .written;
       reachable = s .reachable;
       holds = record { ordered = omega (arith, s .order, s .inside); inside = st .pre .1 .inside };
+      passed = s .passed;
       left = rw (feed-left input (p .loop .from) to (p .loop .end) (st .pre .1 .inside) (s .order) (s .found)) refl;
       full = λ e.
           ⊎-elim

@@ -37,7 +37,7 @@ front-is xs ys from to h e same =
     getD-take n ys j 0 l ∙ same j l ∙ sym (getD-take n (drop from xs) j 0 l ∙ getD-drop from xs j 0)
 
 -- bytes between two places, cut at a third
-between-split : (xs : List ℕ) (from mid to : ℕ) → from ≤ mid → mid ≤ to → between xs from to ≡ between xs from mid ++ between xs mid to
+pub between-split : (xs : List ℕ) (from mid to : ℕ) → from ≤ mid → mid ≤ to → between xs from to ≡ between xs from mid ++ between xs mid to
 between-split xs from mid to h k =
     let e : to - from ≡ mid - from + (to - mid) = omega arith in
     let f : from + (mid - from) ≡ mid = omega arith in
@@ -45,7 +45,7 @@ between-split xs from mid to h k =
     ∙ take-add (mid - from) (to - mid) (drop from xs)
     ∙ ap (λ ys. between xs from mid ++ take (to - mid) ys) (drop-drop (mid - from) from xs ∙ ap (λ n. drop n xs) f)
 
-between-one : (xs : List ℕ) (at : ℕ) → at < length xs → between xs at (at + 1) ≡ getD xs at 0 ∷ []
+pub between-one : (xs : List ℕ) (at : ℕ) → at < length xs → between xs at (at + 1) ≡ getD xs at 0 ∷ []
 between-one xs at h =
     let e : at + 1 - at ≡ suc zero = omega arith in
     ap (λ n. take n (drop at xs)) e ∙ ap (take (suc zero)) (drop-cons xs at 0 h)

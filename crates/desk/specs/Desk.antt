@@ -65,6 +65,7 @@ pub record Keeps (i : Input) (before : List ℕ) (r : Input) (after : List ℕ) 
   pub long : r .cut ≡ (i .cut || ltb 16384 (i .to - i .from))
   pub input : r ≡ atFront i (cond (r .cut) 0 (i .to - i .from)) (r .cut)
   pub bytes : take (r .to) after ≡ cond (r .cut) [] (between before (i .from) (i .to))
+  pub size : length after ≡ length before
 
 -- at the end of the input what is left, if anything is, gets a line feed
 abbrev pub isLeft : Input → Bool

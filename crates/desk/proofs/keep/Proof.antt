@@ -14,7 +14,7 @@ at-front-requires c κs = search needs
 returns : tie.Need-returns
 returns c =
     let e = c .at-front .ensures in
-    record { long = rw (e, c .before .if1 .taken) refl; input = rw e refl; bytes = rw e refl }
+    record { long = rw (e, c .before .if1 .taken) refl; input = rw e refl; bytes = rw e refl; size = refl }
 
 sub-if2 : tie.Need-sub-if2
 sub-if2 c = search needs
@@ -26,7 +26,7 @@ returns-2 : tie.Need-returns-2
 returns-2 c =
     let e = c .at-front2 .ensures in
     let i = c .before .before .before .before .args .i in
-    record { long = rw (e, c .before .before .if1 .left, lt-ltb 16384 (i .to - i .from) (omega arith)) refl; input = rw e refl; bytes = rw e refl }
+    record { long = rw (e, c .before .before .if1 .left, lt-ltb 16384 (i .to - i .from) (omega arith)) refl; input = rw e refl; bytes = rw e refl; size = refl }
 
 to-front-requires : tie.Need-to-front-requires
 to-front-requires c κs = search needs
@@ -44,7 +44,7 @@ returns-3 : tie.Need-returns-3
 returns-3 c =
     let e = c .at-front3 .ensures in
     let i = c .before .before .before .before .before .before .before .before .args .i in
-    record { long = rw (e, c .before .before .before .before .before .before .if1 .left, le-ltb 16384 (i .to - i .from) (omega arith)) refl; input = rw e refl; bytes = rw e (c .before .before .before .to-front .ensures) }
+    record { long = rw (e, c .before .before .before .before .before .before .if1 .left, le-ltb 16384 (i .to - i .from) (omega arith)) refl; input = rw e refl; bytes = rw e (c .before .before .before .to-front .ensures); size = search needs }
 
 pub keep-spec : {M : Type 1} → statement M
 keep-spec =

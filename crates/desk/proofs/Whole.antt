@@ -1,0 +1,253 @@
+-- Turns from the start come to one list of lines: a line that was read in several pieces, and one whose start was dropped, is answered as
+-- it would be if all of it were there.
+-- Assumes nothing.
+use mathlib.Core.Path.{_≡_, refl, sym, _∙_, ap, subst}
+use mathlib.Core.Bool.{Bool, true, false, cond, _||_}
+use mathlib.Core.List.{List, [], _∷_, _++_, append-assoc, append-nil}
+use Prim.Native.Nat.{ℕ, zero, suc, _+_, _-_, _<_, _≤_}
+use native.Mathlib.Nat.{sub-zero}
+use native.Mathlib.Omega.{arith}
+use lib.Dec.{eqb, ltb}
+use lib.IntN.{ℤ, pos, negsuc}
+use lib.ListN.{length, take, drop, set, length-append, length-set}
+use lib.Seq.{take-set-le, getD-set-same}
+use borrow.Author.Tests.{ltb-true, lt-ltb}
+use Rattle.libc.specs.Io.{Moved}
+use Rattle.book.specs.declared.Book.{Book}
+use Rattle.book.specs.Book.{fresh}
+use Rattle.book.proofs.Places.{never}
+use Rattle.protocol.specs.Lines.{lineAt, between}
+use Rattle.protocol.proofs.Parts.{length-between}
+use Rattle.desk.specs.declared.Input.{Input}
+use Rattle.desk.specs.declared.Desk.{Desk}
+use Rattle.desk.specs.Desk.{hasFeed, Takes, none, more, Holds, Took, Keeps, isLeft, Closes, AfterRead, Reads, Fills, off, lines-left, at-end, reads, afterWrite, Flushes, Turns, atStart, Turned, none-yet, turn-more}
+use Rattle.desk.specs.Whole.{added, addedBy, readIn, answersIn, Dropped, Whole}
+use Rattle.desk.proofs.Taking.{between-split, between-one, kept-short, stopped-holds, reads-within}
+
+-- two lists without a line feed
+feed-append : (xs ys : List ℕ) → hasFeed xs ≡ false → hasFeed ys ≡ false → hasFeed (xs ++ ys) ≡ false
+unfolding hasFeed
+feed-append [] ys a b = b
+feed-append (x ∷ xs) ys a b = go (eqb x 10) (λ e. feed-append xs ys e b) a
+  where
+    go : (t : Bool) → (hasFeed xs ≡ false → hasFeed (xs ++ ys) ≡ false) → (t || hasFeed xs) ≡ false → (t || hasFeed (xs ++ ys)) ≡ false
+    go true later e = e
+    go false later e = later e
+
+-- what was dropped has no line feed, and its line is answered as if it were there
+dropped-feed : (cut : Bool) (dropped : List ℕ) → Dropped cut dropped → hasFeed dropped ≡ false
+unfolding hasFeed
+dropped-feed true dropped h = h .1
+dropped-feed false dropped h = ap hasFeed h
+
+line-as : (b : Book) (l : ℕ) (cut : Bool) (dropped line : List ℕ) → Dropped cut dropped → lineAt b l cut line ≡ lineAt b l false (dropped ++ line)
+unfolding lineAt
+line-as b l true dropped line h =
+    let k : 16384 < length (dropped ++ line) = omega (arith, h .0, length-append dropped line) in
+    rw (lt-ltb 16384 (length (dropped ++ line)) k) refl
+line-as b l false dropped line h = ap (λ ys. lineAt b l false (ys ++ line)) (sym h)
+
+-- lines taken from a fresh book, and the start of the next where it was dropped: `done` has the bytes of both
+record Joined (done : List ℕ) (b : Book) (l : ℕ) (cut : Bool) (text : List ℕ) : Type 0 where
+  taken : List ℕ
+  dropped : List ℕ
+  takes : Takes fresh 0 false taken b l false text
+  start : Dropped cut dropped
+  all : done ≡ taken ++ dropped
+
+joined-as : {done done′ text text′ : List ℕ} {b : Book} {l : ℕ} {cut : Bool} → done ≡ done′ → text ≡ text′ → Joined done b l cut text
+    → Joined done′ b l cut text′
+joined-as {done} {done′} {text} {text′} {b} {l} {cut} e f j = subst (λ xs. Joined xs b l cut text′) e (subst (λ xs. Joined done b l cut xs) f j)
+
+one-more : {done text : List ℕ} {b : Book} {l : ℕ} {cut : Bool} → Joined done b l cut text → (line : List ℕ) → hasFeed line ≡ false
+    → Joined (done ++ line ++ (10 ∷ [])) (lineAt b (l + 1) cut line .book) (l + 1) false (text ++ lineAt b (l + 1) cut line .text)
+one-more {b = b} {l} {cut} j line h =
+    record {
+      taken = j .taken ++ (j .dropped ++ line) ++ (10 ∷ []);
+      dropped = [];
+      takes = rw (line-as b (l + 1) cut (j .dropped) line (j .start))
+          (more (j .dropped ++ line) (j .takes) (feed-append (j .dropped) line (dropped-feed cut (j .dropped) (j .start)) h));
+      start = refl;
+      all = ap (λ xs. xs ++ line ++ (10 ∷ [])) (j .all) ∙ simp (append-assoc, append-nil);
+    }
+
+join : {done text bytes t : List ℕ} {b b′ : Book} {l l′ : ℕ} {cut cut′ : Bool} → Joined done b l cut text → Takes b l cut bytes b′ l′ cut′ t
+    → Joined (done ++ bytes) b′ l′ cut′ (text ++ t)
+join {done} {text} j none = joined-as (sym (append-nil done)) (sym (append-nil text)) j
+join {done} {text} j (more {text = t} line k h) = joined-as (simp append-assoc) (append-assoc text t _) (one-more (join j k) line h)
+
+-- what is kept of the input, and what is dropped of it
+module _ (b : Book) (l : ℕ) (text : List ℕ) (i : Input) (before : List ℕ) (kept : Input) (front : List ℕ) (k : Keeps i before kept front) (fits : i .to ≤ length before) where
+  abbrev had : List ℕ
+  had = between before (i .from) (i .to)
+
+  long : (c : Bool) (dropped : List ℕ) → Dropped c dropped → true ≡ (c || ltb 16384 (i .to - i .from)) → 16384 < length (dropped ++ had)
+  long true dropped h e = omega (arith, h .0, length-append dropped had)
+  long false dropped h e =
+      omega (arith, ltb-true 16384 (i .to - i .from) (sym e), length-append dropped had, length-between before (i .from) (i .to) fits)
+
+  not-cut : (c : Bool) (dropped : List ℕ) → Dropped c dropped → false ≡ (c || ltb 16384 (i .to - i .from)) → dropped ≡ []
+  not-cut true dropped h e = never (cc)
+  not-cut false dropped h e = h
+
+  kept-joins : (done : List ℕ) → Joined done b l (i .cut) text → hasFeed had ≡ false
+      → (done′ : List ℕ) × Joined done′ b l (kept .cut) text × (done ++ had ≡ done′ ++ take (kept .to) front)
+  kept-joins done j h = go (kept .cut) (k .long) (k .bytes)
+    where
+      go : (t : Bool) → t ≡ (i .cut || ltb 16384 (i .to - i .from)) → take (kept .to) front ≡ cond t [] had
+          → (done′ : List ℕ) × Joined done′ b l t text × (done ++ had ≡ done′ ++ take (kept .to) front)
+      go true e f = (
+        done ++ had,
+        record {
+          taken = j .taken;
+          dropped = j .dropped ++ had;
+          takes = j .takes;
+          start = (long (i .cut) (j .dropped) (j .start) e, feed-append (j .dropped) had (dropped-feed (i .cut) (j .dropped) (j .start)) h);
+          all = ap (λ xs. xs ++ had) (j .all) ∙ append-assoc (j .taken) (j .dropped) had;
+        },
+        sym (append-nil (done ++ had)) ∙ ap (λ xs. done ++ had ++ xs) (sym f),
+      )
+      go false e f = (
+        done,
+        record { taken = j .taken; dropped = j .dropped; takes = j .takes; start = not-cut (i .cut) (j .dropped) (j .start) e; all = j .all },
+        ap (λ xs. done ++ xs) (sym f),
+      )
+
+-- what is read stands behind what was kept
+module _ (i : Input) (before : List ℕ) (r : Input) (after : List ℕ) (k : Reads i before r after) (front : i .from ≡ 0) (room : i .to < length before) where
+  kept-bytes : between (k .into) (i .from) (i .to) ≡ take (i .to) before
+  kept-bytes = ap (λ n. between (k .into) n (i .to)) front ∙ ap (λ n. take n (k .into)) (sub-zero (i .to)) ∙ k .bytes
+
+  closed-adds : (t : Bool) → between (cond t (set (k .into) (i .to) 10) (k .into)) (i .from) (cond t (i .to + 1) (i .to)) ≡ take (i .to) before ++ cond t (10 ∷ []) []
+  closed-adds true =
+      let xs = set (k .into) (i .to) 10 in
+      let inside : i .to < length (k .into) = omega (arith, k .size) in
+      between-split xs (i .from) (i .to) (i .to + 1) (omega arith) (omega arith)
+      ∙ ap (λ ys. ys ++ between xs (i .to) (i .to + 1)) (ap (λ n. between xs n (i .to)) front ∙ ap (λ n. take n xs) (sub-zero (i .to)) ∙ take-set-le (i .to) (k .into) (i .to) 10 (omega arith) ∙ k .bytes)
+      ∙ ap (λ ys. take (i .to) before ++ ys) (between-one xs (i .to) (omega (arith, length-set (k .into) (i .to) 10)) ∙ ap (λ n. n ∷ []) (getD-set-same (k .into) (i .to) 10 0 inside))
+  closed-adds false = kept-bytes ∙ sym (append-nil (take (i .to) before))
+
+  read-adds : (r .cut ≡ i .cut) × (length after ≡ length before) × (between after (r .from) (r .to) ≡ take (i .to) before ++ added (k .got) i (k .into))
+  read-adds = go (k .got) (k .answered)
+    where
+      closed-size : (t : Bool) → length (cond t (set (k .into) (i .to) 10) (k .into)) ≡ length before
+      closed-size true = length-set (k .into) (i .to) 10 ∙ k .size
+      closed-size false = k .size
+
+      go : (got : ℤ) → AfterRead got i (k .into) r after
+          → (r .cut ≡ i .cut) × (length after ≡ length before) × (between after (r .from) (r .to) ≡ take (i .to) before ++ added got i (k .into))
+      go (negsuc n) e = (ap (λ x. x .cut) (e .0), ap length (e .1) ∙ k .size, rw (e .0, e .1) (kept-bytes ∙ sym (append-nil (take (i .to) before))))
+      go (pos zero) e = (ap (λ x. x .cut) (e .input), ap length (e .bytes) ∙ closed-size (isLeft i), rw (e .input, e .bytes) (closed-adds (isLeft i)))
+      go (pos (suc n)) e = (
+        ap (λ x. x .cut) (e .0),
+        ap length (e .1) ∙ k .size,
+        rw (e .0, e .1)
+        (between-split (k .into) (i .from) (i .to) (i .to + suc n) (omega arith) (omega arith)
+        ∙ ap (λ ys. ys ++ between (k .into) (i .to) (i .to + suc n)) kept-bytes),
+      )
+
+-- what is known between two steps of a turn
+record Account (read text : List ℕ) (b : Book) (l : ℕ) (i : Input) (input : List ℕ) : Type 0 where
+  done : List ℕ
+  joined : Joined done b l (i .cut) text
+  all : read ≡ done ++ between input (i .from) (i .to)
+  holds : Holds i (length input)
+  size : length input ≡ 65536
+
+flushed-account : {read text input : List ℕ} {b : Book} {l : ℕ} {i r : Input} → Flushes i r → Account read text b l i input
+    → Account read text b l r input
+flushed-account {read} {text} {input} {b} {l} {i} f a = subst (λ x. Account read text b l x input) (sym (f .input)) (go (f .written))
+  where
+    go : (t : Bool) → Account read text b l (afterWrite t i) input
+    go true = a
+    go false = record { done = a .done; joined = a .joined; all = a .all; holds = stopped-holds (a .holds); size = a .size }
+
+filled-account : {read text before after : List ℕ} {b : Book} {l : ℕ} {i r : Input} → Account read text b l i before
+    → i .more ≡ hasFeed (between before (i .from) (i .to)) → (f : Fills i before r after) → Account (read ++ addedBy f) text b l r after
+filled-account {read} {text} {before} {after} {b} {l} {i} {r} a m f = go f
+  where
+    -- nothing is added
+    same : Account (read ++ []) text b l i before
+    same = record { done = a .done; joined = a .joined; all = append-nil read ∙ a .all; holds = a .holds; size = a .size }
+
+    go : (f : Fills i before r after) → Account (read ++ addedBy f) text b l r after
+    go (off x e g) = rw (e, g) same
+    go (lines-left x y e g) = rw (e, g) same
+    go (at-end x y z e g) =
+        rw (e, g) record { done = a .done; joined = a .joined; all = append-nil read ∙ a .all; holds = stopped-holds (a .holds); size = a .size }
+    go (reads x y z kept front k rd) =
+        let short : kept .to < length front = omega (arith, kept-short i before kept front k, k .size, a .size) in
+        let zero : kept .from ≡ 0 = ap (λ q. q .from) (k .input) in
+        let w = kept-joins b l text i before kept front k (a .holds .inside) (a .done) (a .joined) (sym m ∙ y) in
+        let s = read-adds kept front r after rd zero short in
+        let within = reads-within kept front r after rd short in
+        record {
+          done = w .0;
+          joined = subst (λ t. Joined (w .0) b l t text) (sym (s .0)) (w .1);
+          all = ap (λ xs. xs ++ added (rd .got) kept (rd .into)) (a .all ∙ w .2)
+              ∙ append-assoc (w .0) (take (kept .to) front) (added (rd .got) kept (rd .into))
+              ∙ ap (λ xs. w .0 ++ xs) (sym (s .2));
+          holds = record { ordered = omega (arith, within .0, zero); inside = omega (arith, within .1, s .1) };
+          size = s .1 ∙ k .size ∙ a .size;
+        }
+
+took-account : {read text input before after : List ℕ} {b : Book} {l : ℕ} {i : Input} {r : Desk} → Account read text b l i input
+    → (t : Took b l i input before r after) → Account read (text ++ t .text) (r .book) (r .lines) (r .input) input
+took-account {input = input} {i = i} {r = r} a t =
+    let to : r .input .to ≡ i .to = ap (λ x. x .to) (t .left) in
+    record {
+      done = a .done ++ between input (i .from) (r .input .from);
+      joined = join (a .joined) (t .takes);
+      all = a .all
+          ∙ ap (λ xs. a .done ++ xs) (between-split input (i .from) (r .input .from) (i .to) (t .passed) (omega (arith, t .holds .ordered)))
+          ∙ sym (append-assoc (a .done) (between input (i .from) (r .input .from)) (between input (r .input .from) (i .to)))
+          ∙ ap (λ n. a .done ++ between input (i .from) (r .input .from) ++ between input (r .input .from) n) (sym to);
+      holds = t .holds;
+      size = a .size;
+    }
+
+-- `more` says so where a whole line is left
+took-more : {b : Book} {l : ℕ} {i : Input} {input before : List ℕ} {r : Desk} {after : List ℕ} → Took b l i input before r after
+    → r .input .more ≡ hasFeed (between input (r .input .from) (r .input .to))
+took-more {input = input} {r = r} t =
+    ap (λ x. x .more) (t .left) ∙ ap (λ n. hasFeed (between input (r .input .from) n)) (sym (ap (λ x. x .to) (t .left)))
+
+flushed-more : {i r : Input} (input : List ℕ) → Flushes i r → i .more ≡ hasFeed (between input (i .from) (i .to))
+    → r .more ≡ hasFeed (between input (r .from) (r .to))
+flushed-more {i} {r} input f m = subst (λ x. x .more ≡ hasFeed (between input (x .from) (x .to))) (sym (f .input)) (go (f .written))
+  where
+    go : (t : Bool) → afterWrite t i .more ≡ hasFeed (between input (afterWrite t i .from) (afterWrite t i .to))
+    go true = m
+    go false = m
+
+accounts : {d : Desk} {input₀ out₀ input out : List ℕ} {n : ℕ} → length input₀ ≡ 65536 → (t : Turned atStart input₀ out₀ n d input out)
+    → Account (readIn t) (answersIn t) (d .book) (d .lines) (d .input) input
+    × (d .input .more ≡ hasFeed (between input (d .input .from) (d .input .to)))
+unfolding readIn answersIn hasFeed
+accounts e none-yet = (
+  record {
+    done = [];
+    joined = record { taken = []; dropped = []; takes = none; start = refl; all = refl };
+    all = refl;
+    holds = record { ordered = omega arith; inside = omega arith };
+    size = e;
+  },
+  refl,
+)
+accounts e (turn-more {input = input} t on u) =
+    let a = accounts e t in
+    let f = flushed-account (u .flushes) (a .0) in
+    (took-account (filled-account f (flushed-more input (u .flushes) (a .1)) (u .fills)) (u .took), took-more (u .took))
+
+-- what the turns from the start come to
+pub whole : {d : Desk} {input₀ out₀ input out : List ℕ} {n : ℕ} → length input₀ ≡ 65536 → (t : Turned atStart input₀ out₀ n d input out)
+    → Whole (readIn t) (answersIn t) d input
+whole {d} {input = input} e t =
+    let a = accounts e t .0 in
+    record {
+      taken = a .joined .taken;
+      dropped = a .joined .dropped;
+      takes = a .joined .takes;
+      start = a .joined .start;
+      all = a .all ∙ ap (λ xs. xs ++ between input (d .input .from) (d .input .to)) (a .joined .all);
+    }

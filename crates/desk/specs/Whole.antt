@@ -1,0 +1,49 @@
+-- What the turns of a run come to together: all that was read is one list of bytes, and the answers are those to its lines.
+-- Assumes nothing.
+use mathlib.Core.Path.{_≡_}
+use mathlib.Core.Bool.{Bool, true, false, cond}
+use mathlib.Core.List.{List, [], _∷_, _++_}
+use Prim.Native.Nat.{ℕ, zero, suc, _+_, _<_}
+use lib.IntN.{ℤ, pos, negsuc}
+use lib.ListN.{length}
+use Rattle.book.specs.Book.{fresh}
+use Rattle.protocol.specs.Lines.{between}
+use Rattle.desk.specs.declared.Input.{Input}
+use Rattle.desk.specs.declared.Desk.{Desk}
+use Rattle.desk.specs.Desk.{hasFeed, Takes, isLeft, Fills, off, lines-left, at-end, reads, Turned, none-yet, turn-more}
+
+-- the bytes that a read adds to those that i has, by the system's answer: none where it failed, at the end a line feed if anything is
+-- left, and else those that it put into the buffer
+abbrev pub added : (got : ℤ) (i : Input) (into : List ℕ) → List ℕ
+added (negsuc k) i into = []
+added (pos zero) i into = cond (isLeft i) (10 ∷ []) []
+added (pos (suc n)) i into = between into (i .to) (i .to + suc n)
+
+abbrev pub addedBy : {i r : Input} {before after : List ℕ} → Fills i before r after → List ℕ
+addedBy (off a b c) = []
+addedBy (lines-left a b c d) = []
+addedBy (at-end a b c d e) = []
+addedBy (reads a b c kept front k r) = added (r .got) kept (r .into)
+
+-- all that was read in some turns, and the text of all their answers
+unfoldable pub readIn : {d₀ d : Desk} {input₀ out₀ input out : List ℕ} {n : ℕ} → Turned d₀ input₀ out₀ n d input out → List ℕ
+readIn none-yet = []
+readIn (turn-more t on u) = readIn t ++ addedBy (u .fills)
+
+unfoldable pub answersIn : {d₀ d : Desk} {input₀ out₀ input out : List ℕ} {n : ℕ} → Turned d₀ input₀ out₀ n d input out → List ℕ
+answersIn none-yet = []
+answersIn (turn-more t on u) = answersIn t ++ u .took .text
+
+-- the start of a line that was dropped, since it is too long; or nothing was
+abbrev pub Dropped : Bool → List ℕ → Type 0
+Dropped true bytes = (16384 < length bytes) × (hasFeed bytes ≡ false)
+Dropped false bytes = bytes ≡ []
+
+-- all that was read is whole lines, which were taken from line 1 on a fresh book and answered one after the other; then the start of a
+-- line that is too long, if it was dropped; and what the buffer still has
+pub record Whole (read text : List ℕ) (d : Desk) (input : List ℕ) : Type 0 where
+  pub taken : List ℕ
+  pub dropped : List ℕ
+  pub takes : Takes fresh 0 false taken (d .book) (d .lines) false text
+  pub start : Dropped (d .input .cut) dropped
+  pub all : read ≡ taken ++ dropped ++ between input (d .input .from) (d .input .to)

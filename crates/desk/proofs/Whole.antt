@@ -4,6 +4,7 @@
 use mathlib.Core.Path.{_≡_, refl, sym, _∙_, ap, subst}
 use mathlib.Core.Bool.{Bool, true, false, cond, _||_}
 use mathlib.Core.List.{List, [], _∷_, _++_, append-assoc, append-nil}
+use mathlib.Core.Logic.{_⊎_, inl, inr, ⊎-elim}
 use Prim.Native.Nat.{ℕ, zero, suc, _+_, _-_, _<_, _≤_}
 use native.Mathlib.Nat.{sub-zero}
 use native.Mathlib.Omega.{arith}
@@ -11,7 +12,7 @@ use lib.Dec.{eqb, ltb}
 use lib.IntN.{ℤ, pos, negsuc}
 use lib.ListN.{length, take, drop, set, length-append, length-set}
 use lib.Seq.{take-set-le, getD-set-same}
-use borrow.Author.Tests.{ltb-true, lt-ltb}
+use borrow.Author.Tests.{ltb-true, ltb-false, lt-ltb}
 use Rattle.libc.specs.Io.{Moved}
 use Rattle.book.specs.declared.Book.{Book}
 use Rattle.book.specs.Book.{fresh}
@@ -46,6 +47,55 @@ line-as b l true dropped line h =
     let k : 16384 < length (dropped ++ line) = omega (arith, h .0, length-append dropped line) in
     rw (lt-ltb 16384 (length (dropped ++ line)) k) refl
 line-as b l false dropped line h = ap (λ ys. lineAt b l false (ys ++ line)) (sym h)
+
+-- whole lines, or nothing: then no start of a line was dropped either
+abbrev Complete : (cut : Bool) (bytes : List ℕ) → Type 0
+Complete cut bytes = ((bytes ≡ []) × (cut ≡ false)) ⊎ ((xs : List ℕ) × (bytes ≡ xs ++ (10 ∷ [])))
+
+or-left : (x y : Bool) → (x || y) ≡ false → x ≡ false
+or-left true y e = e
+or-left false y e = refl
+
+or-right : (x y : Bool) → (x || y) ≡ false → y ≡ false
+or-right true y e = never (cc)
+or-right false y e = e
+
+feed-last : (xs : List ℕ) → hasFeed (xs ++ (10 ∷ [])) ≡ true
+unfolding hasFeed
+feed-last [] = refl
+feed-last (x ∷ xs) = go (eqb x 10) (feed-last xs)
+  where
+    go : (t : Bool) → hasFeed (xs ++ (10 ∷ [])) ≡ true → (t || hasFeed (xs ++ (10 ∷ []))) ≡ true
+    go true later = refl
+    go false later = later
+
+complete-none : (cut : Bool) (bytes : List ℕ) → Complete cut bytes → hasFeed bytes ≡ false → (bytes ≡ []) × (cut ≡ false)
+complete-none cut bytes (inl p) h = p
+complete-none cut bytes (inr (xs, e)) h = never (cc (sym h ∙ ap hasFeed e ∙ feed-last xs))
+
+-- what is left of whole lines when some bytes are taken from their front
+suffix : (fs bs xs : List ℕ) → fs ++ bs ≡ xs ++ (10 ∷ []) → (bs ≡ []) ⊎ ((ys : List ℕ) × (bs ≡ ys ++ (10 ∷ [])))
+suffix [] bs xs e = inr (xs, e)
+suffix (a ∷ fs) bs [] e = inl (empty fs bs (cc))
+  where
+    empty : (fs bs : List ℕ) → fs ++ bs ≡ [] → bs ≡ []
+    empty [] bs e = e
+    empty (a ∷ fs) bs e = never (cc)
+suffix (a ∷ fs) bs (x ∷ xs) e = suffix fs bs xs (cc)
+
+takes-cut : {b b′ : Book} {l l′ : ℕ} {cut cut′ : Bool} {bytes text : List ℕ} → Takes b l cut bytes b′ l′ cut′ text
+    → ((bytes ≡ []) × (cut′ ≡ cut)) ⊎ (cut′ ≡ false)
+takes-cut none = inl (refl, refl)
+takes-cut (more line t h) = inr refl
+
+-- lines taken from the front of a list of bytes
+front-taken : (fs bs : List ℕ) (cut cut′ : Bool) → Complete cut (fs ++ bs) → ((fs ≡ []) × (cut′ ≡ cut)) ⊎ (cut′ ≡ false) → Complete cut′ bs
+front-taken [] bs cut cut′ (inl p) (inl q) = inl (p .0, q .1 ∙ p .1)
+front-taken [] bs cut cut′ (inl p) (inr q) = inl (p .0, q)
+front-taken [] bs cut cut′ (inr p) w = inr p
+front-taken (a ∷ fs) bs cut cut′ (inl p) w = never (cc (p .0))
+front-taken (a ∷ fs) bs cut cut′ (inr p) (inl q) = never (cc (q .0))
+front-taken (a ∷ fs) bs cut cut′ (inr (xs, e)) (inr q) = ⊎-elim (λ z. inl (z, q)) (λ z. inr z) (suffix (a ∷ fs) bs xs e)
 
 -- lines taken from a fresh book, and the start of the next where it was dropped: `done` has the bytes of both
 record Joined (done : List ℕ) (b : Book) (l : ℕ) (cut : Bool) (text : List ℕ) : Type 0 where
@@ -142,9 +192,24 @@ module _ (i : Input) (before : List ℕ) (r : Input) (after : List ℕ) (k : Rea
         ap (λ x. x .cut) (e .0),
         ap length (e .1) ∙ k .size,
         rw (e .0, e .1)
-        (between-split (k .into) (i .from) (i .to) (i .to + suc n) (omega arith) (omega arith)
-        ∙ ap (λ ys. ys ++ between (k .into) (i .to) (i .to + suc n)) kept-bytes),
+            (between-split (k .into) (i .from) (i .to) (i .to + suc n) (omega arith) (omega arith)
+            ∙ ap (λ ys. ys ++ between (k .into) (i .to) (i .to + suc n)) kept-bytes),
       )
+
+  -- at the end it is whole lines, or nothing
+  ended-whole : i .ended ≡ false → r .ended ≡ true → Complete (r .cut) (between after (r .from) (r .to))
+  ended-whole x y = go (k .got) (k .answered)
+    where
+      closed-whole : (t : Bool) → isLeft i ≡ t → Complete (i .cut) (between (cond t (set (k .into) (i .to) 10) (k .into)) (i .from) (cond t (i .to + 1) (i .to)))
+      closed-whole true e = inr (take (i .to) before, closed-adds true)
+      closed-whole false e =
+          let z : i .to ≡ 0 = omega (arith, ltb-false 0 (i .to) (or-right (i .cut) (ltb 0 (i .to)) e)) in
+          inl (kept-bytes ∙ ap (λ n. take n before) z, or-left (i .cut) (ltb 0 (i .to)) e)
+
+      go : (got : ℤ) → AfterRead got i (k .into) r after → Complete (r .cut) (between after (r .from) (r .to))
+      go (negsuc n) e = never (cc (ap (λ q. q .ended) (e .0), x, y))
+      go (pos zero) e = rw (e .input, e .bytes) (closed-whole (isLeft i) refl)
+      go (pos (suc n)) e = never (cc (ap (λ q. q .ended) (e .0), x, y))
 
 -- what is known between two steps of a turn
 record Account (read text : List ℕ) (b : Book) (l : ℕ) (i : Input) (input : List ℕ) : Type 0 where
@@ -206,23 +271,44 @@ took-account {input = input} {i = i} {r = r} a t =
       size = a .size;
     }
 
--- `more` says so where a whole line is left
-took-more : {b : Book} {l : ℕ} {i : Input} {input before : List ℕ} {r : Desk} {after : List ℕ} → Took b l i input before r after
-    → r .input .more ≡ hasFeed (between input (r .input .from) (r .input .to))
-took-more {input = input} {r = r} t =
-    ap (λ x. x .more) (t .left) ∙ ap (λ n. hasFeed (between input (r .input .from) n)) (sym (ap (λ x. x .to) (t .left)))
+-- what is known of the marks of an input: `more` says whether a whole line is there, and once the input has ended all is whole lines
+record Marks (i : Input) (input : List ℕ) : Type 0 where
+  line : i .more ≡ hasFeed (between input (i .from) (i .to))
+  last : i .ended ≡ true → Complete (i .cut) (between input (i .from) (i .to))
 
-flushed-more : {i r : Input} (input : List ℕ) → Flushes i r → i .more ≡ hasFeed (between input (i .from) (i .to))
-    → r .more ≡ hasFeed (between input (r .from) (r .to))
-flushed-more {i} {r} input f m = subst (λ x. x .more ≡ hasFeed (between input (x .from) (x .to))) (sym (f .input)) (go (f .written))
+flushed-marks : {i r : Input} {input : List ℕ} → Flushes i r → Marks i input → Marks r input
+flushed-marks {i} {r} {input} f m = subst (λ x. Marks x input) (sym (f .input)) (go (f .written))
   where
-    go : (t : Bool) → afterWrite t i .more ≡ hasFeed (between input (afterWrite t i .from) (afterWrite t i .to))
+    go : (t : Bool) → Marks (afterWrite t i) input
     go true = m
-    go false = m
+    go false = record { line = m .line; last = m .last }
+
+filled-last : {read text before after : List ℕ} {b : Book} {l : ℕ} {i r : Input} → Account read text b l i before → Marks i before
+    → Fills i before r after → r .ended ≡ true → Complete (r .cut) (between after (r .from) (r .to))
+filled-last a m (off x e g) y = rw (e, g) (m .last (sym (ap (λ q. q .ended) e) ∙ y))
+filled-last a m (lines-left x z e g) y = rw (e, g) (m .last (sym (ap (λ q. q .ended) e) ∙ y))
+filled-last a m (at-end x z w e g) y = rw (e, g) (m .last w)
+filled-last {before = before} {after} {i = i} {r} a m (reads x z w kept front k rd) y =
+    ended-whole kept front r after rd (ap (λ q. q .from) (k .input)) (omega (arith, kept-short i before kept front k, k .size, a .size))
+    (ap (λ q. q .ended) (k .input) ∙ w) y
+
+took-marks : {b : Book} {l : ℕ} {i : Input} {input before : List ℕ} {r : Desk} {after : List ℕ} → Took b l i input before r after
+    → (i .ended ≡ true → Complete (i .cut) (between input (i .from) (i .to))) → Marks (r .input) input
+took-marks {i = i} {input = input} {r = r} t last =
+    let to : r .input .to ≡ i .to = ap (λ x. x .to) (t .left) in
+    let from = r .input .from in
+    record {
+      line = ap (λ x. x .more) (t .left) ∙ ap (λ n. hasFeed (between input from n)) (sym to);
+      last = λ e.
+          subst (λ n. Complete (r .input .cut) (between input from n)) (sym to)
+          (front-taken (between input (i .from) from) (between input from (i .to)) (i .cut) (r .input .cut)
+          (subst (Complete (i .cut)) (between-split input (i .from) from (i .to) (t .passed) (omega (arith, t .holds .ordered)))
+          (last (sym (ap (λ x. x .ended) (t .left)) ∙ e)))
+          (takes-cut (t .takes)));
+    }
 
 accounts : {d : Desk} {input₀ out₀ input out : List ℕ} {n : ℕ} → length input₀ ≡ 65536 → (t : Turned atStart input₀ out₀ n d input out)
-    → Account (readIn t) (answersIn t) (d .book) (d .lines) (d .input) input
-    × (d .input .more ≡ hasFeed (between input (d .input .from) (d .input .to)))
+    → Account (readIn t) (answersIn t) (d .book) (d .lines) (d .input) input × Marks (d .input) input
 unfolding readIn answersIn hasFeed
 accounts e none-yet = (
   record {
@@ -232,12 +318,13 @@ accounts e none-yet = (
     holds = record { ordered = omega arith; inside = omega arith };
     size = e;
   },
-  refl,
+  record { line = refl; last = λ y. never (cc) },
 )
-accounts e (turn-more {input = input} t on u) =
+accounts e (turn-more t on u) =
     let a = accounts e t in
     let f = flushed-account (u .flushes) (a .0) in
-    (took-account (filled-account f (flushed-more input (u .flushes) (a .1)) (u .fills)) (u .took), took-more (u .took))
+    let m = flushed-marks (u .flushes) (a .1) in
+    (took-account (filled-account f (m .line) (u .fills)) (u .took), took-marks (u .took) (filled-last f m (u .fills)))
 
 -- what the turns from the start come to
 pub whole : {d : Desk} {input₀ out₀ input out : List ℕ} {n : ℕ} → length input₀ ≡ 65536 → (t : Turned atStart input₀ out₀ n d input out)
@@ -251,3 +338,15 @@ whole {d} {input = input} e t =
       start = a .joined .start;
       all = a .all ∙ ap (λ xs. xs ++ between input (d .input .from) (d .input .to)) (a .joined .all);
     }
+
+-- once the input has ended and no whole line is left, all that was read is lines, and each is answered
+pub all-answered : {d : Desk} {input₀ out₀ input out : List ℕ} {n : ℕ} → length input₀ ≡ 65536 → (t : Turned atStart input₀ out₀ n d input out)
+    → d .input .ended ≡ true → d .input .more ≡ false → Takes fresh 0 false (readIn t) (d .book) (d .lines) false (answersIn t)
+all-answered {d} {input = input} e t ended none-left =
+    let w = whole e t in
+    let m = accounts e t .1 in
+    let p = complete-none (d .input .cut) (between input (d .input .from) (d .input .to)) (m .last ended) (sym (m .line) ∙ none-left) in
+    let nothing : w .dropped ≡ [] = subst (λ c. Dropped c (w .dropped)) (p .1) (w .start) in
+    let same : readIn t ≡ w .taken =
+    w .all ∙ ap (λ xs. w .taken ++ w .dropped ++ xs) (p .0) ∙ append-nil (w .taken ++ w .dropped) ∙ ap (λ xs. w .taken ++ xs) nothing ∙ append-nil (w .taken) in
+    rw same (w .takes)

@@ -1,12 +1,12 @@
 -- Where a whole line is there a turn takes one: the output is empty when lines are taken, so there is room for its answer.
 -- Assumes nothing.
-use mathlib.Core.Path.{_≡_, refl, sym, _∙_, ap}
+use mathlib.Core.Path.{_≡_, refl, _∙_, ap}
 use mathlib.Core.Bool.{Bool, true, false}
-use mathlib.Core.List.{List, [], _∷_, _++_}
+use mathlib.Core.List.{List}
 use Prim.Native.Nat.{ℕ, _+_, _-_, _^_, _<_, _≤_}
 use native.Mathlib.Omega.{arith}
 use lib.Dec.{leb, ltb}
-use lib.ListN.{length, take, drop, length-append}
+use lib.ListN.{length, take, drop}
 use borrow.Author.Tests.{ltb-true, ltb-false, lt-ltb, le-leb}
 use Rattle.laws.proofs.Every.{and-both}
 use Rattle.book.specs.declared.Book.{Book}
@@ -14,17 +14,12 @@ use Rattle.book.proofs.Places.{never}
 use Rattle.protocol.specs.Lines.{between}
 use Rattle.desk.specs.declared.Input.{Input}
 use Rattle.desk.specs.declared.Desk.{Desk}
-use Rattle.desk.specs.Desk.{hasFeed, Takes, none, more, hasRoom, Took}
-
--- where no byte was taken there is no answer, and the count is as it was
-takes-nothing : {b b′ : Book} {l l′ : ℕ} {cut cut′ : Bool} {bytes text : List ℕ} → Takes b l cut bytes b′ l′ cut′ text → length bytes ≡ 0
-    → (l′ ≡ l) × (length text ≡ 0)
-takes-nothing none e = (refl, refl)
-takes-nothing (more {bytes = bytes} line t h) e =
-    absurd (omega (arith, e, length-append (bytes ++ line) (10 ∷ [])))
+use Rattle.desk.specs.Desk.{hasFeed, hasRoom, Took}
+use Rattle.desk.proofs.Taking.{takes-none}
 
 pub progress : {b : Book} {l : ℕ} {i : Input} {input before : List ℕ} {r : Desk} {after : List ℕ} → Took b l i input before r after
     → 344 ≤ length before → l + 1 < 2 ^ 64 → hasFeed (between input (i .from) (i .to)) ≡ true → i .from < r .input .from
+unfolding hasFeed
 progress {b} {l} {i} {input} {before} {r} {after} t room number line = go (ltb (i .from) (r .input .from)) refl
   where
     go : (x : Bool) → ltb (i .from) (r .input .from) ≡ x → i .from < r .input .from
@@ -32,7 +27,7 @@ progress {b} {l} {i} {input} {before} {r} {after} t room number line = go (ltb (
     go false e =
         let same : r .input .from ≡ i .from = omega (arith, ltb-false (i .from) (r .input .from) e, t .passed) in
         let zero : r .input .from - i .from ≡ 0 = omega arith in
-        let n = takes-nothing (t .takes) (ap (λ k. length (take k (drop (i .from) input))) zero) in
+        let n = takes-none (t .takes) (ap (λ k. hasFeed (take k (drop (i .from) input))) zero) in
         let no = t .full (ap (λ x. x .more) (t .left) ∙ ap (λ k. hasFeed (between input k (i .to))) same ∙ line) in
         let yes : hasRoom (r .at) (length before) (r .lines) ≡ true =
         and-both (leb (r .at + 344) (length before)) (ltb (r .lines + 1) (2 ^ 64))

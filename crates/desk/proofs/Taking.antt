@@ -173,17 +173,57 @@ module _ (b : Book) (lines : ℕ) (i : Input) (input before : List ℕ) (fits : 
         found = f;
       }
 
--- what is kept of an unfinished line is no longer than a line may be
-no-or : (x y : Bool) → false ≡ (x || y) → y ≡ false
-no-or true y e = never (cc)
-no-or false y e = sym e
+-- neither of two tests
+pub or-left : (x y : Bool) → (x || y) ≡ false → x ≡ false
+or-left true y e = e
+or-left false y e = refl
 
+pub or-right : (x y : Bool) → (x || y) ≡ false → y ≡ false
+or-right true y e = never (cc)
+or-right false y e = e
+
+-- line feeds of two lists together
+pub feed-append : (xs ys : List ℕ) → hasFeed xs ≡ false → hasFeed ys ≡ false → hasFeed (xs ++ ys) ≡ false
+unfolding hasFeed
+feed-append [] ys a b = b
+feed-append (x ∷ xs) ys a b = go (eqb x 10) (λ e. feed-append xs ys e b) a
+  where
+    go : (t : Bool) → (hasFeed xs ≡ false → hasFeed (xs ++ ys) ≡ false) → (t || hasFeed xs) ≡ false → (t || hasFeed (xs ++ ys)) ≡ false
+    go true later e = e
+    go false later e = later e
+
+pub feed-split : (xs ys : List ℕ) → hasFeed (xs ++ ys) ≡ false → (hasFeed xs ≡ false) × (hasFeed ys ≡ false)
+unfolding hasFeed
+feed-split [] ys e = (refl, e)
+feed-split (x ∷ xs) ys e = go (eqb x 10) (feed-split xs ys) e
+  where
+    go : (t : Bool) → (hasFeed (xs ++ ys) ≡ false → (hasFeed xs ≡ false) × (hasFeed ys ≡ false)) → (t || hasFeed (xs ++ ys)) ≡ false
+        → ((t || hasFeed xs) ≡ false) × (hasFeed ys ≡ false)
+    go true later e = never (cc)
+    go false later e = later e
+
+pub feed-last : (xs : List ℕ) → hasFeed (xs ++ (10 ∷ [])) ≡ true
+unfolding hasFeed
+feed-last [] = refl
+feed-last (x ∷ xs) = go (eqb x 10) (feed-last xs)
+  where
+    go : (t : Bool) → hasFeed (xs ++ (10 ∷ [])) ≡ true → (t || hasFeed (xs ++ (10 ∷ []))) ≡ true
+    go true later = refl
+    go false later = later
+
+-- where no line feed is among the bytes taken there is no line, and no answer
+pub takes-none : {b b′ : Book} {l l′ : ℕ} {cut cut′ : Bool} {bytes text : List ℕ} → Takes b l cut bytes b′ l′ cut′ text → hasFeed bytes ≡ false
+    → (l′ ≡ l) × (length text ≡ 0)
+takes-none none h = (refl, refl)
+takes-none (more {bytes = bytes} line t k) h = never (cc (sym h ∙ feed-last (bytes ++ line)))
+
+-- what is kept of an unfinished line is no longer than a line may be
 pub kept-short : (i : Input) (before : List ℕ) (r : Input) (after : List ℕ) → Keeps i before r after → r .to ≤ 16384
 kept-short i before r after k = go (r .cut) (k .long) (ap (λ x. x .to) (k .input))
   where
     go : (t : Bool) → t ≡ (i .cut || ltb 16384 (i .to - i .from)) → r .to ≡ cond t 0 (i .to - i .from) → r .to ≤ 16384
     go true e f = omega arith
-    go false e f = omega (arith, ltb-false 16384 (i .to - i .from) (no-or (i .cut) (ltb 16384 (i .to - i .from)) e))
+    go false e f = omega (arith, ltb-false 16384 (i .to - i .from) (or-right (i .cut) (ltb 16384 (i .to - i .from)) (sym e)))
 
 -- whether anything is left
 pub left-none : (i : Input) → i .cut ≡ false → i .to ≡ 0 → isLeft i ≡ false

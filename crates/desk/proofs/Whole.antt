@@ -1,5 +1,5 @@
 -- Turns from the start come to one list of lines: a line that was read in several pieces, and one whose start was dropped, is answered as
--- it would be if all of it were there.
+-- it would be if all of it were there. And turns come to an end by a failed write or read, or when all is answered and written out.
 -- Assumes nothing.
 use mathlib.Core.Path.{_≡_, refl, sym, _∙_, ap, subst}
 use mathlib.Core.Bool.{Bool, true, false, cond, _||_}
@@ -8,12 +8,12 @@ use mathlib.Core.Logic.{_⊎_, inl, inr, ⊎-elim}
 use Prim.Native.Nat.{ℕ, zero, suc, _+_, _-_, _<_, _≤_}
 use native.Mathlib.Nat.{sub-zero}
 use native.Mathlib.Omega.{arith}
-use lib.Dec.{eqb, ltb}
+use lib.Dec.{ltb}
 use lib.IntN.{ℤ, pos, negsuc}
-use lib.ListN.{length, take, drop, set, length-append, length-set}
+use lib.ListN.{length, take, set, length-append, length-set}
 use lib.Seq.{take-set-le, getD-set-same}
+use lib.Signed.{ltZ}
 use borrow.Author.Tests.{ltb-true, ltb-false, lt-ltb}
-use Rattle.libc.specs.Io.{Moved}
 use Rattle.book.specs.declared.Book.{Book}
 use Rattle.book.specs.Book.{fresh}
 use Rattle.book.proofs.Places.{never}
@@ -21,19 +21,9 @@ use Rattle.protocol.specs.Lines.{lineAt, between}
 use Rattle.protocol.proofs.Parts.{length-between}
 use Rattle.desk.specs.declared.Input.{Input}
 use Rattle.desk.specs.declared.Desk.{Desk}
-use Rattle.desk.specs.Desk.{hasFeed, Takes, none, more, Holds, Took, Keeps, isLeft, Closes, AfterRead, Reads, Fills, off, lines-left, at-end, reads, afterWrite, Flushes, Turns, atStart, Turned, none-yet, turn-more}
-use Rattle.desk.specs.Whole.{added, addedBy, readIn, answersIn, Dropped, Whole}
-use Rattle.desk.proofs.Taking.{between-split, between-one, kept-short, stopped-holds, reads-within}
-
--- two lists without a line feed
-feed-append : (xs ys : List ℕ) → hasFeed xs ≡ false → hasFeed ys ≡ false → hasFeed (xs ++ ys) ≡ false
-unfolding hasFeed
-feed-append [] ys a b = b
-feed-append (x ∷ xs) ys a b = go (eqb x 10) (λ e. feed-append xs ys e b) a
-  where
-    go : (t : Bool) → (hasFeed xs ≡ false → hasFeed (xs ++ ys) ≡ false) → (t || hasFeed xs) ≡ false → (t || hasFeed (xs ++ ys)) ≡ false
-    go true later e = e
-    go false later e = later e
+use Rattle.desk.specs.Desk.{hasFeed, Takes, none, more, Holds, Took, Keeps, isLeft, AfterRead, Reads, Fills, off, lines-left, at-end, reads, stopped, afterWrite, Flushes, atStart, Turned, none-yet, turn-more}
+use Rattle.desk.specs.Whole.{added, addedBy, readIn, answersIn, Dropped, Whole, ReadFailed, WhyLast, write-failed, read-failed, all-done, WhyEnded}
+use Rattle.desk.proofs.Taking.{between-split, between-one, feed-append, feed-split, feed-last, takes-none, or-left, or-right, kept-short, stopped-holds, reads-within}
 
 -- what was dropped has no line feed, and its line is answered as if it were there
 dropped-feed : (cut : Bool) (dropped : List ℕ) → Dropped cut dropped → hasFeed dropped ≡ false
@@ -51,23 +41,6 @@ line-as b l false dropped line h = ap (λ ys. lineAt b l false (ys ++ line)) (sy
 -- whole lines, or nothing: then no start of a line was dropped either
 abbrev Complete : (cut : Bool) (bytes : List ℕ) → Type 0
 Complete cut bytes = ((bytes ≡ []) × (cut ≡ false)) ⊎ ((xs : List ℕ) × (bytes ≡ xs ++ (10 ∷ [])))
-
-or-left : (x y : Bool) → (x || y) ≡ false → x ≡ false
-or-left true y e = e
-or-left false y e = refl
-
-or-right : (x y : Bool) → (x || y) ≡ false → y ≡ false
-or-right true y e = never (cc)
-or-right false y e = e
-
-feed-last : (xs : List ℕ) → hasFeed (xs ++ (10 ∷ [])) ≡ true
-unfolding hasFeed
-feed-last [] = refl
-feed-last (x ∷ xs) = go (eqb x 10) (feed-last xs)
-  where
-    go : (t : Bool) → hasFeed (xs ++ (10 ∷ [])) ≡ true → (t || hasFeed (xs ++ (10 ∷ []))) ≡ true
-    go true later = refl
-    go false later = later
 
 complete-none : (cut : Bool) (bytes : List ℕ) → Complete cut bytes → hasFeed bytes ≡ false → (bytes ≡ []) × (cut ≡ false)
 complete-none cut bytes (inl p) h = p
@@ -347,6 +320,52 @@ all-answered {d} {input = input} e t ended none-left =
     let m = accounts e t .1 in
     let p = complete-none (d .input .cut) (between input (d .input .from) (d .input .to)) (m .last ended) (sym (m .line) ∙ none-left) in
     let nothing : w .dropped ≡ [] = subst (λ c. Dropped c (w .dropped)) (p .1) (w .start) in
-    let same : readIn t ≡ w .taken =
-    w .all ∙ ap (λ xs. w .taken ++ w .dropped ++ xs) (p .0) ∙ append-nil (w .taken ++ w .dropped) ∙ ap (λ xs. w .taken ++ xs) nothing ∙ append-nil (w .taken) in
+    let same : readIn t ≡ w .taken = w .all ∙ ap (λ xs. w .taken ++ w .dropped ++ xs) (p .0) ∙ append-nil (w .taken ++ w .dropped) ∙ ap (λ xs. w .taken ++ xs) nothing ∙ append-nil (w .taken) in
     rw same (w .takes)
+
+-- where no whole line is there none is taken, and no answer waits
+nothing-left : {b : Book} {l : ℕ} {i : Input} {input before : List ℕ} {r : Desk} {after : List ℕ} → Took b l i input before r after
+    → hasFeed (between input (i .from) (i .to)) ≡ false → (r .input .more ≡ false) × (r .at ≡ 0)
+nothing-left {i = i} {input = input} {r = r} t h =
+    let from = r .input .from in
+    let order : from ≤ i .to = omega (arith, t .holds .ordered, ap (λ x. x .to) (t .left)) in
+    let p = feed-split (between input (i .from) from) (between input from (i .to)) (ap hasFeed (sym (between-split input (i .from) from (i .to) (t .passed) order)) ∙ h) in
+    (ap (λ x. x .more) (t .left) ∙ p .1, omega (arith, t .written .ends, takes-none (t .takes) (p .0) .1))
+
+-- a turn's read leaves the desk going on, unless it failed or the input was over
+why-off : {i r : Input} {before after : List ℕ} (f : Fills i before r after) → i .on ≡ true → r .on ≡ false
+    → ReadFailed f ⊎ ((i .more ≡ false) × (i .ended ≡ true) × (r ≡ stopped i) × (after ≡ before))
+why-off (off x e g) a b = never (cc)
+why-off (lines-left x y e g) a b = never (cc (ap (λ q. q .on) e))
+why-off (at-end x y z e g) a b = inr (y, z, e, g)
+why-off {r = r} {after = after} (reads x y z kept front k rd) a b = inl (go (rd .got) (rd .answered))
+  where
+    on : kept .on ≡ true
+    on = ap (λ q. q .on) (k .input) ∙ x
+
+    go : (got : ℤ) → AfterRead got kept (rd .into) r after → ltZ got (pos 0) ≡ true
+    go (negsuc n) e = refl
+    go (pos zero) e = never (cc (ap (λ q. q .on) (e .input), on, b))
+    go (pos (suc n)) e = never (cc (ap (λ q. q .on) (e .0), on, b))
+
+-- why turns from the start come to an end
+pub why-ended : {d : Desk} {input₀ out₀ input out : List ℕ} {n : ℕ} → length input₀ ≡ 65536 → (t : Turned atStart input₀ out₀ n d input out)
+    → d .input .on ≡ false → WhyEnded t
+why-ended e none-yet b = never (cc)
+why-ended e (turn-more {d = d} {d′ = d′} {input = input} {input′ = input′} t on u) b = go (u .flushes .written) refl
+  where
+    m : Marks (u .flushed) input
+    m = flushed-marks (u .flushes) (accounts e t .1)
+
+    over : (u .flushed .more ≡ false) × (u .flushed .ended ≡ true) × (u .had ≡ stopped (u .flushed)) × (input′ ≡ input) → WhyLast u
+    over w =
+        let none-there : hasFeed (between input′ (u .had .from) (u .had .to)) ≡ false = rw (w .2, w .3) (sym (m .line) ∙ w .0) in
+        let p = nothing-left (u .took) none-there in
+        all-done (ap (λ x. x .ended) (u .took .left) ∙ ap (λ x. x .ended) (w .2) ∙ w .1) (p .0) (p .1)
+
+    go : (x : Bool) → u .flushes .written ≡ x → WhyLast u
+    go false x = write-failed x
+    go true x =
+        let same : u .flushed ≡ d .input = u .flushes .input ∙ ap (λ q. afterWrite q (d .input)) x in
+        ⊎-elim (λ w. read-failed w) over
+        (why-off (u .fills) (ap (λ q. q .on) same ∙ on) (sym (ap (λ q. q .on) (u .took .left)) ∙ b))

@@ -6,11 +6,12 @@ use mathlib.Core.List.{List, [], _∷_, _++_}
 use Prim.Native.Nat.{ℕ, zero, suc, _+_, _<_}
 use lib.IntN.{ℤ, pos, negsuc}
 use lib.ListN.{length}
+use lib.Signed.{ltZ}
 use Rattle.book.specs.Book.{fresh}
 use Rattle.protocol.specs.Lines.{between}
 use Rattle.desk.specs.declared.Input.{Input}
 use Rattle.desk.specs.declared.Desk.{Desk}
-use Rattle.desk.specs.Desk.{hasFeed, Takes, isLeft, Fills, off, lines-left, at-end, reads, Turned, none-yet, turn-more}
+use Rattle.desk.specs.Desk.{hasFeed, Takes, isLeft, Fills, off, lines-left, at-end, reads, Turns, Turned, none-yet, turn-more}
 
 -- the bytes that a read adds to those that i has, by the system's answer: none where it failed, at the end a line feed if anything is
 -- left, and else those that it put into the buffer
@@ -47,3 +48,20 @@ pub record Whole (read text : List ℕ) (d : Desk) (input : List ℕ) : Type 0 w
   pub takes : Takes fresh 0 false taken (d .book) (d .lines) false text
   pub start : Dropped (d .input .cut) dropped
   pub all : read ≡ taken ++ dropped ++ between input (d .input .from) (d .input .to)
+
+-- the system answered to a turn's `read` that it failed
+abbrev pub ReadFailed : {i r : Input} {before after : List ℕ} → Fills i before r after → Type 0
+ReadFailed (off a b c) = ⊥
+ReadFailed (lines-left a b c d) = ⊥
+ReadFailed (at-end a b c d e) = ⊥
+ReadFailed (reads a b c kept front k r) = ltZ (r .got) (pos 0) ≡ true
+
+-- why a turn is the last: its write failed, or its read; or the input is over, no whole line is left, and no answer waits
+pub data WhyLast {d r : Desk} {input before input′ after : List ℕ} (u : Turns d input before r input′ after) : Type 0 where
+  write-failed : u .flushes .written ≡ false → WhyLast u
+  read-failed : ReadFailed (u .fills) → WhyLast u
+  all-done : r .input .ended ≡ true → r .input .more ≡ false → r .at ≡ 0 → WhyLast u
+
+abbrev pub WhyEnded : {d₀ d : Desk} {input₀ out₀ input out : List ℕ} {n : ℕ} → Turned d₀ input₀ out₀ n d input out → Type 0
+WhyEnded none-yet = ⊥
+WhyEnded (turn-more t on u) = WhyLast u

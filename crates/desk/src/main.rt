@@ -3,6 +3,8 @@
 // answers out, reads more where no whole line is left (`Fills`), and takes whole lines, each answered as the protocol says (`Took`, over
 // `lineAt` of protocol/specs/Lines.antt), on the book and the count of lines of the turn before. Nothing of an unfinished line is lost
 // between two reads unless it is too long (`Keeps`), and at the end of the input what is left is a line (`Closes`).
+// What the turns come to is proved in proofs/Whole.antt: all that was read is one list of lines, answered from line 1 on a fresh book
+// whatever pieces it was read in (`whole`, `all-answered`), and a run ends by a failed read or write, or with nothing left (`why-ended`).
 // No contract can say which bytes the system's `read` and `write` move, nor what they answer. So it is left to a reader of `read_more`
 // and `flush`, which alone call them, that the one reads standard input into the place behind what was kept, that the other writes the
 // first `at` bytes of the output, and that each hands the answer on to `after_read` or `after_write`; those two are proved.

@@ -1,6 +1,5 @@
 -- `desk::after_write` meets its contract.
 -- Assumes nothing.
-use mathlib.Core.Path.{refl}
 use borrow.Author.Needs.{needs}
 use Rattle.desk.proofs.after_write.Statement.{statement}
 use Rattle.desk.proofs.after_write.Tie as tie

@@ -41,10 +41,11 @@ refusalNumber (opened cells) = none
 refusalNumber (refused n) = some n
 refusalNumber (over c months e) = some 11
 
-abbrev pub noRefusal : Option ℕ → Bool
-noRefusal none = true
-noRefusal (some n) = false
+-- there is none
+abbrev pub isNone : {A : Type 0} → Option A → Bool
+isNone none = true
+isNone (some a) = false
 
 -- a call is accepted where its answer is no refusal
 abbrev pub isAccepted : Answer → Bool
-isAccepted a = noRefusal (refusalNumber a)
+isAccepted a = isNone (refusalNumber a)

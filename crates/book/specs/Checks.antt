@@ -9,9 +9,9 @@ use Rattle.refusal.specs.declared.Check.the-variants.{Pass, Refuse}
 use Rattle.benchmark.specs.declared.Benchmarks.{Benchmarks}
 use Rattle.benchmark.specs.Benchmark.{benchmarksOf, setCheck}
 use Rattle.tariff.specs.Tariff.{tariffOf, recordCheck}
-use Rattle.verdict.specs.Cells.{Cell, Verdict, opens, verdict, firstOver}
+use Rattle.verdict.specs.Cells.{Verdict, opens, verdict, firstOver}
 use Rattle.verdict.specs.Cells as cells
-use Rattle.book.specs.Calls.{Sheet, Record, Call, SET, PUT, OPEN, CLOSE, DROP, Answer, accepted, opened, refused, over}
+use Rattle.book.specs.Calls.{Sheet, Record, Call, SET, PUT, OPEN, CLOSE, DROP, Answer, accepted, opened, refused, over, isNone}
 
 -- what the checks of a call look at: the sheet in force, the tariff of a code, and whether a code is open
 pub record Readings : Type 0 where
@@ -75,10 +75,6 @@ answer r (CLOSE k) = closeAnswer (outside k) (r .tariff k) (r .isOpen k)
 answer r (DROP k) = dropAnswer (outside k) (r .tariff k) (r .isOpen k)
 
 -- a tariff exceeds in no offered cell; true of no tariff
-abbrev pub isNone : Option Cell → Bool
-isNone none = true
-isNone (some c) = false
-
 abbrev pub complies : Sheet → Option Record → Bool
 complies s none = true
 complies s (some x) = isNone (firstOver (figuresOf s) (tariffOf x))

@@ -18,8 +18,8 @@ use Rattle.book.specs.declared.State.{State}
 use Rattle.book.specs.declared.State.the-variants.{Empty, Draft, Open}
 use Rattle.book.specs.declared.Place.{Place}
 use Rattle.book.specs.declared.Book.{Book}
-use Rattle.book.specs.Calls.{Sheet, Record, Call, SET, PUT, OPEN, CLOSE, DROP, isAccepted}
-use Rattle.book.specs.Checks.{figuresOf, outside, answer, isNone, complies}
+use Rattle.book.specs.Calls.{Sheet, Record, Call, SET, PUT, OPEN, CLOSE, DROP, isAccepted, isNone}
+use Rattle.book.specs.Checks.{figuresOf, outside, answer, complies}
 use Rattle.book.specs.Book.{empty, stored, numbers, withState, fresh, placeOf, heldIn, held, isOpen, sheetIf, sheetIn, bookReadings, withPlace, under, changed, after, step, bookAfter, answersOf}
 use Rattle.book.proofs.Places.{never, inside, at-set, length-setPlace, at-map, held-under, open-under, fresh-place, held-numbers, held-inside, record-length, listed}
 use Rattle.book.proofs.Found.{put-accepted, close-accepted, drop-accepted, Opens, open-accepted}

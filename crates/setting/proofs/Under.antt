@@ -16,8 +16,8 @@ use Rattle.verdict.specs.Cells.{Cell, firstOver}
 use Rattle.book.specs.declared.State.{State}
 use Rattle.book.specs.declared.State.the-variants.{Empty, Draft, Open}
 use Rattle.book.specs.declared.Place.{Place}
-use Rattle.book.specs.Calls.{Sheet, Record}
-use Rattle.book.specs.Checks.{figuresOf, isNone}
+use Rattle.book.specs.Calls.{Sheet, Record, isNone}
+use Rattle.book.specs.Checks.{figuresOf}
 use Rattle.book.specs.Book.{beyond, numbers, withState, openIf, stateUnder, under}
 use Rattle.book.specs.Sound.{tariffIn, Holds}
 use Rattle.book.proofs.Reached.{tariff-held}

@@ -6,8 +6,7 @@ use Rattle.verdict.specs.Cells.{firstOver}
 use Rattle.book.specs.declared.State.{State}
 use Rattle.book.specs.declared.State.the-variants.{Empty, Draft, Open}
 use Rattle.book.specs.declared.Place.{Place}
-use Rattle.book.specs.Calls.{Record}
-use Rattle.book.specs.Checks.{isNone}
+use Rattle.book.specs.Calls.{Record, isNone}
 use Rattle.book.specs.Book.{numbers, withState, openIf}
 
 -- `under` of the book's definitions, with the sheet's figures worked out

@@ -12,8 +12,8 @@ use Rattle.tariff.specs.declared.Tariff.{Tariff}
 use Rattle.tariff.specs.Tariff.{tariffOf, recordCheck}
 use Rattle.verdict.specs.Cells.{Cell, bit, offered, terms, opens, verdict, verdictAt, firstOver}
 use Rattle.verdict.specs.Cells as cells
-use Rattle.book.specs.Calls.{Sheet, Record, Call, SET, PUT, OPEN, CLOSE, Answer, accepted, opened, refused, over, isAccepted}
-use Rattle.book.specs.Checks.{figuresOf, answer, setAnswer, putAnswer, closeAnswer, verdictAnswer, isNone, complies}
+use Rattle.book.specs.Calls.{Sheet, Record, Call, SET, PUT, OPEN, CLOSE, Answer, accepted, opened, refused, over, isAccepted, isNone}
+use Rattle.book.specs.Checks.{figuresOf, answer, setAnswer, putAnswer, closeAnswer, verdictAnswer, complies}
 use Rattle.book.proofs.Places.{never}
 use Rattle.history.specs.History.{readings, answersAfter}
 use Rattle.laws.specs.Notions.{every, sum, total, tabulate, tabulateFrom}

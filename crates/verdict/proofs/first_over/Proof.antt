@@ -101,7 +101,7 @@ judge-requires c κs =
     let co = c .before .before .before .before .before .before .before .before .before .before in (
       st .pre .1,
       subst (λ (n : ℕ). Cornered (st .args .x) n (co .corners-of .result)) (co .before .wide .ensures ∙ sym (c .terms-at .ensures .2)) (co .corners-of .ensures),
-      subst Fits (sym (terms-of c)) (terms-fit (st .args .b) (st .args .x) (st .pre .0) (w .region) (c .before .before .before .before .before .loop .method) (c .before .before .before .before .before .before .before .before .if1 .left) (c .before .before .before .before .loop-test .taken)),
+      subst Fits (sym (terms-of c)) (terms-fit (st .args .b) (st .args .x) (st .pre .0) (w .region) (c .before .before .before .before .before .loop .method) (omega (arith, c .before .before .before .before .before .before .before .before .if1 .left)) (c .before .before .before .before .loop-test .taken)),
     )
 
 enum-known-judged : tie.Need-enum-known-judged Inv-loop μ-loop Inv-walk μ-walk
@@ -165,7 +165,7 @@ returns-2 c =
     let st = w .before .before .before .before .before .before in
     let b = st .args .b in
     let x = st .args .x in
-    over-cell b x (w .walk .region) (l .loop .method) _ _ (j .before .before .before .before .before .before .before .before .before .if1 .left) (j .before .before .before .before .before .loop-test .taken)
+    over-cell b x (w .walk .region) (l .loop .method) _ _ (omega (arith, j .before .before .before .before .before .before .before .before .before .if1 .left)) (j .before .before .before .before .before .loop-test .taken)
     (sym (j .before .before .before .before .before .before .before .before .has .ensures) ∙ j .before .before .before .before .before .before .before .if2 .taken)
     (sym (j .before .before .before .before .has2 .ensures) ∙ j .before .before .before .if3 .taken)
     (l .loop .inv .1)

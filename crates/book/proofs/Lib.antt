@@ -1,5 +1,4 @@
 pub mod Places
-pub mod Found
-pub mod Reached
+pub mod Accepted
 pub mod Steps
-pub mod InForce
+pub mod Reached

@@ -19,12 +19,20 @@ sheetAt fields period = record { fields = fields; period = period }
 abbrev pub Record : Type 0
 Record = List ℕ
 
-pub data Call : Type 0 where
-  SET : Sheet → Call
-  PUT : ℕ → Record → Call
-  OPEN : ℕ → Call
-  CLOSE : ℕ → Call
-  DROP : ℕ → Call
+-- what is asked of the book
+pub data Act : Type 0 where
+  SET : Sheet → Act
+  PUT : ℕ → Record → Act
+  OPEN : ℕ → Act
+  CLOSE : ℕ → Act
+  DROP : ℕ → Act
+
+-- a call: an act; whose call it is makes no difference
+pub record Call : Type 0 where
+  pub act : Act
+
+abbrev pub call : Act → Call
+call a = record { act = a }
 
 -- "answers only that it was accepted"; opened, "with the number of cells"; "a refusal returns its number, with 11 the figures named":
 -- the cell, the months and the excess

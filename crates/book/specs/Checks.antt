@@ -1,80 +1,77 @@
--- The checks of SET, PUT, OPEN, CLOSE and DROP: one table a call, clause by clause in document 01's order.
+-- The checks of SET, PUT, OPEN, CLOSE and DROP: a line a call, in document 01's order.
 -- Assumes nothing.
 use mathlib.Core.Bool.{Bool, true, false, not, _&&_}
 use mathlib.Core.Option.{Option, none, some}
 use Prim.Native.Nat.{ℕ}
 use lib.Dec.{leb}
 use Rattle.refusal.specs.declared.Check.{Check}
-use Rattle.refusal.specs.declared.Check.the-variants.{Pass, Refuse}
+use Rattle.refusal.specs.Checks.{checked, need, given}
 use Rattle.benchmark.specs.declared.Benchmarks.{Benchmarks}
 use Rattle.benchmark.specs.Benchmark.{benchmarksOf, setCheck}
-use Rattle.tariff.specs.Tariff.{tariffOf, recordCheck}
+use Rattle.tariff.specs.declared.Tariff.{Tariff}
+use Rattle.tariff.specs.Tariff.{recordCheck}
 use Rattle.verdict.specs.Cells.{Verdict, opens, verdict, firstOver}
 use Rattle.verdict.specs.Cells as cells
-use Rattle.book.specs.Calls.{Sheet, Record, Call, SET, PUT, OPEN, CLOSE, DROP, Answer, accepted, opened, refused, over, isNone}
+use Rattle.book.specs.Calls.{Sheet, Record, Act, SET, PUT, OPEN, CLOSE, DROP, Answer, accepted, opened, refused, over, isNone}
 
--- what the checks of a call look at: the sheet in force, the tariff of a code, and whether a code is open
+-- what a place holds: a tariff, and whether it is open
+pub record Holding : Type 0 where
+  pub tariff : Tariff
+  pub isOpen : Bool
+
+-- what the checks of a call look at: the sheet in force, and what the place of a code holds, or nothing
 pub record Readings : Type 0 where
   pub sheet : Option Sheet
-  pub tariff : ℕ → Option Record
-  pub isOpen : ℕ → Bool
+  pub held : ℕ → Option Holding
+
+abbrev pub isOpen : Option Holding → Bool
+isOpen none = false
+isOpen (some h) = h .isOpen
 
 -- the figures of a sheet with its period
 abbrev pub figuresOf : Sheet → Benchmarks
 figuresOf s = benchmarksOf (s .fields) (s .period)
 
--- 6: code outside 1 to 32
-abbrev pub outside : ℕ → Bool
-outside k = not (leb 1 k && leb k 32)
+-- a tariff exceeds in no offered cell
+abbrev pub complies : Benchmarks → Tariff → Bool
+complies f x = isNone (firstOver f x)
 
--- SET: 1 to 5
-abbrev pub setAnswer : Check → Answer
-setAnswer Pass = accepted
-setAnswer (Refuse n) = refused n
-
--- PUT: 6; 7: the place is open; 8: not such a record
-abbrev pub putAnswer : (outside isOpen : Bool) (record? : Check) → Answer
-putAnswer true isOpen record? = refused 6
-putAnswer false true record? = refused 7
-putAnswer false false (Refuse n) = refused n
-putAnswer false false Pass = accepted
+-- code 1 to 32
+abbrev pub inside : ℕ → Bool
+inside k = leb 1 k && leb k 32
 
 -- 11: over the cap; "Else open; the answer carries the number of cells"
 abbrev pub verdictAnswer : Verdict → Answer
 verdictAnswer (opens n) = opened n
 verdictAnswer (cells.over c months e) = over c months e
 
--- OPEN: 6; 9: the place is empty; 7; 10: no sheet; 11
-abbrev pub openAnswer : (outside : Bool) (tariff : Option Record) (isOpen : Bool) (sheet : Option Sheet) → Answer
-openAnswer true tariff isOpen sheet = refused 6
-openAnswer false none isOpen sheet = refused 9
-openAnswer false (some x) true sheet = refused 7
-openAnswer false (some x) false none = refused 10
-openAnswer false (some x) false (some s) = verdictAnswer (verdict (figuresOf s) (tariffOf x))
+-- SET: 1 to 5
+abbrev pub setAnswer : Sheet → Answer
+setAnswer s = checked refused (setCheck (s .fields) (s .period)) accepted
 
--- CLOSE: 6; 9; 12: not open
-abbrev pub closeAnswer : (outside : Bool) (tariff : Option Record) (isOpen : Bool) → Answer
-closeAnswer true tariff isOpen = refused 6
-closeAnswer false none isOpen = refused 9
-closeAnswer false (some x) false = refused 12
-closeAnswer false (some x) true = accepted
+-- PUT. 6: code outside 1 to 32. 7: the place is open. 8: not such a record
+abbrev pub putAnswer : ℕ → Option Holding → Record → Answer
+putAnswer k held x = need refused (inside k) 6 (need refused (not (isOpen held)) 7 (checked refused (recordCheck x) accepted))
 
--- DROP: 6; 9; 7
-abbrev pub dropAnswer : (outside : Bool) (tariff : Option Record) (isOpen : Bool) → Answer
-dropAnswer true tariff isOpen = refused 6
-dropAnswer false none isOpen = refused 9
-dropAnswer false (some x) true = refused 7
-dropAnswer false (some x) false = accepted
+-- OPEN. 6. 9: the place is empty. 7. 10: no sheet. 11
+abbrev pub openAnswer : ℕ → Option Holding → Option Sheet → Answer
+openAnswer k held sheet =
+    need refused (inside k) 6
+    (given refused held 9
+    (λ h. need refused (not (h .isOpen)) 7 (given refused sheet 10 (λ s. verdictAnswer (verdict (figuresOf s) (h .tariff))))))
+
+-- CLOSE. 6. 9. 12: not open
+abbrev pub closeAnswer : ℕ → Option Holding → Answer
+closeAnswer k held = need refused (inside k) 6 (given refused held 9 (λ h. need refused (h .isOpen) 12 accepted))
+
+-- DROP. 6. 9. 7
+abbrev pub dropAnswer : ℕ → Option Holding → Answer
+dropAnswer k held = need refused (inside k) 6 (given refused held 9 (λ h. need refused (not (h .isOpen)) 7 accepted))
 
 -- the answer that the checks of a call give for such readings
-abbrev pub answer : Readings → Call → Answer
-answer r (SET s) = setAnswer (setCheck (s .fields) (s .period))
-answer r (PUT k x) = putAnswer (outside k) (r .isOpen k) (recordCheck x)
-answer r (OPEN k) = openAnswer (outside k) (r .tariff k) (r .isOpen k) (r .sheet)
-answer r (CLOSE k) = closeAnswer (outside k) (r .tariff k) (r .isOpen k)
-answer r (DROP k) = dropAnswer (outside k) (r .tariff k) (r .isOpen k)
-
--- a tariff exceeds in no offered cell; true of no tariff
-abbrev pub complies : Sheet → Option Record → Bool
-complies s none = true
-complies s (some x) = isNone (firstOver (figuresOf s) (tariffOf x))
+abbrev pub answer : Readings → Act → Answer
+answer r (SET s) = setAnswer s
+answer r (PUT k x) = putAnswer k (r .held k) x
+answer r (OPEN k) = openAnswer k (r .held k) (r .sheet)
+answer r (CLOSE k) = closeAnswer k (r .held k)
+answer r (DROP k) = dropAnswer k (r .held k)

@@ -1,6 +1,5 @@
 pub mod Calls
 pub mod Checks
 pub mod Book
-pub mod Sound
 pub mod Promises
 pub mod Settling

@@ -27,8 +27,11 @@ monthsIn (reply.Opened n) = 0
 monthsIn (reply.Refused n) = 0
 monthsIn (reply.Over r m t e) = t
 
+abbrev pub NoughtPast : Reply → List ℕ → Type 0
+NoughtPast q months = (i : ℕ) → monthsIn q ≤ i → getD months i 0 ≡ 0
+
 -- a call on a book, as the code did it: its answer and the whole book after it
 pub record Does (b : Book) (c : Call) (r : Done) : Type 0 where
   pub answers : answerOf (r .reply) (r .months) ≡ step b c .answer
   pub leaves : r .book ≡ step b c .book
-  pub rest-nought : (i : ℕ) → monthsIn (r .reply) ≤ i → getD (r .months) i 0 ≡ 0
+  pub rest-nought : NoughtPast (r .reply) (r .months)

@@ -1,55 +1,72 @@
--- What a call on the place of a code comes to, and the checks that look at one place: how the code goes about it.
+-- How the code goes about a call on the place of a code: its checks as one, and what is handed on.
 -- Assumes nothing.
 use mathlib.Core.Path.{_≡_}
-use mathlib.Core.Bool.{not}
+use mathlib.Core.Bool.{Bool, true, false, not, cond}
 use Prim.Native.Nat.{ℕ, suc}
-use lib.ListN.{getD}
+use lib.ListN.{replicate}
 use Rattle.refusal.specs.declared.Check.{Check}
 use Rattle.refusal.specs.declared.Check.the-variants.{Pass, Refuse}
+use Rattle.refusal.specs.Checks.{unless, checked}
 use Rattle.book.specs.declared.State.{State}
 use Rattle.book.specs.declared.State.the-variants.{Empty, Draft, Open}
 use Rattle.book.specs.declared.Reply.{Reply}
 use Rattle.book.specs.declared.Reply.the-variants as reply
-use Rattle.book.specs.declared.Done.{Done}
-use Rattle.book.specs.declared.Book.{Book}
 use Rattle.book.specs.declared.Place.{Place}
 use Rattle.book.specs.declared.Settled.{Settled}
-use Rattle.book.specs.Calls.{Call}
-use Rattle.refusal.specs.Checks.{unless}
-use Rattle.book.specs.Checks.{outside}
-use Rattle.book.specs.Book.{beyond, withPlace}
-use Rattle.book.specs.Promises.{Does}
+use Rattle.book.specs.declared.Done.{Done}
+use Rattle.book.specs.declared.Book.{Book}
+use Rattle.book.specs.Calls.{Answer, refused, isAccepted}
+use Rattle.book.specs.Checks.{inside}
+use Rattle.book.specs.Book.{withPlace}
+use Rattle.book.specs.Promises.{answerOf, NoughtPast}
 
 -- 6: code outside 1 to 32
 abbrev pub codeCheck : ℕ → Check
-codeCheck k = unless (not (outside k)) 6 Pass
+codeCheck k = unless (inside k) 6 Pass
 
--- a call on the place of a code, handed on: the book with the place after it at that index
+-- the checks that look at the state of a place: 9, 7 and 12
+abbrev pub isFilled : State → Bool
+isFilled Empty = false
+isFilled Draft = true
+isFilled Open = true
+
+abbrev pub isOpenState : State → Bool
+isOpenState Empty = false
+isOpenState Draft = false
+isOpenState Open = true
+
+abbrev pub emptyCheck : State → Check
+emptyCheck s = unless (isFilled s) 9 Pass
+
+abbrev pub openCheck : State → Check
+openCheck s = unless (not (isOpenState s)) 7 Pass
+
+abbrev pub closedCheck : State → Check
+closedCheck s = unless (isOpenState s) 12 Pass
+
+-- the answer of a call's checks
+abbrev pub replyOf : Check → Reply
+replyOf Pass = reply.Accepted
+replyOf (Refuse n) = reply.Refused n
+
+-- with a place: as it was where a check refused, and else as the call leaves it
+abbrev pub placeBy : Check → (before after : Place) → Place
+placeBy Pass before after = after
+placeBy (Refuse n) before after = before
+
+abbrev pub settledBy : Check → (before after : Place) → Settled
+settledBy check before after = record { reply = replyOf check; months = replicate 12 0; place = placeBy check before after }
+
+-- with a book
+abbrev pub doneBy : Check → Book → Done
+doneBy check b = record { reply = replyOf check; months = replicate 12 0; book = b }
+
+-- handed on: the book with the place after the call at its index
 abbrev pub settledIn : Book → ℕ → Settled → Done
 settledIn b at r = record { reply = r .reply; months = r .months; book = withPlace b (suc at) (r .place) }
 
--- what a call on the place of a code comes to, in every book that has that place at that code. Of a code outside 1 to 32 any place
--- may be given, and stays.
-abbrev pub Settles : Call → ℕ → Place → Settled → Type 0
-Settles c k p r =
-    (b : Book) (at : ℕ) → (codeCheck k ≡ Pass → suc at ≡ k) → getD (b .places) at beyond ≡ p → Does b c (settledIn b at r)
-
--- the checks that look at one place
-abbrev pub emptyCheck : State → Check
-emptyCheck Empty = Refuse 9
-emptyCheck Draft = Pass
-emptyCheck Open = Pass
-
-abbrev pub openCheck : State → Check
-openCheck Empty = Pass
-openCheck Draft = Pass
-openCheck Open = Refuse 7
-
-abbrev pub closedCheck : State → Check
-closedCheck Empty = Refuse 12
-closedCheck Draft = Refuse 12
-closedCheck Open = Pass
-
-abbrev pub refusalOf : Check → Reply
-refusalOf Pass = reply.Accepted
-refusalOf (Refuse n) = reply.Refused n
+-- What a call on one place comes to: the answer behind its checks, and the place as it was or, where the call is accepted, as it leaves it
+pub record Settles (check : Check) (next : Answer) (before after : Place) (r : Settled) : Type 0 where
+  pub answers : answerOf (r .reply) (r .months) ≡ checked refused check next
+  pub leaves : r .place ≡ cond (isAccepted (checked refused check next)) after before
+  pub rest-nought : NoughtPast (r .reply) (r .months)

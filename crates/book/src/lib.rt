@@ -1,18 +1,15 @@
-// The tariff book: 32 places and a sheet in force; PUT, CLOSE and DROP; and the checks that every call opens.
-// Promise: each call answers and leaves what `step` of specs/Book.antt says, on refused input too. The book goes in by value and
-// comes back. PUT, CLOSE and DROP require nothing. What the layer above may use: the types, the checks, `refused`, `accepted`,
-// `step` and `Reachable` of specs/Book.antt, `Does` of specs/Promises.antt, and proofs/Reached.antt, what holds of every
-// reachable book.
+// The tariff book: 32 places and a sheet in force, and what every call opens: its checks, the place of a code and the answer.
+// Promise: specs/Book.antt says what each call answers and leaves (`step`), and `Does` of specs/Promises.antt is what a call promises of it.
+// What the layer above may use: the types, the checks, `settled_by` and `answered`; proofs/Steps.antt, which turns what a call's checks came
+// to into `Does`; and proofs/Reached.antt, lists of calls. The book goes into a call by value and comes back.
 ghost use mathlib.Core.Path.{_≡_};
+ghost use mathlib.Core.Bool.{true};
 ghost use Prim.Native.Nat.{suc, _<_};
-ghost use lib.ListN.{length, replicate};
 ghost use Rattle.refusal.specs.declared.Check.the-variants.{Pass};
 ghost use Rattle.refusal.specs.Checks.{unless};
-ghost use Rattle.book.specs.Calls.{PUT, CLOSE, DROP};
-ghost use Rattle.book.specs.Settling.{codeCheck, emptyCheck, openCheck, closedCheck, refusalOf, Settles};
-ghost use Rattle.book.specs.Book.{empty, fresh, stored, withState};
-ghost use Rattle.book.specs.Sound.{tariffIn};
-ghost use Rattle.book.specs.Promises.{Does};
+ghost use Rattle.book.specs.Checks.{inside};
+ghost use Rattle.book.specs.Settling.{codeCheck, emptyCheck, openCheck, closedCheck, replyOf, settledBy, doneBy};
+ghost use Rattle.book.specs.Book.{empty, fresh, placeWith, tariffIn, withState};
 use benchmark::Benchmarks;
 use calendar::Period;
 use refusal::Check;
@@ -69,8 +66,50 @@ pub struct Done {
     pub book: Book,
 }
 
+// A tariff in a place.
+pub fn place_with(state: State, x: Tariff) -> Place
+    ensures { λ r. ⌜ r ≡ placeWith state x ⌝ }
+{
+    let rates = x.rates;
+    let steps = x.steps;
+    Place {
+        state,
+        kind: x.kind,
+        n: x.n,
+        standing: x.standing,
+        regions: x.regions,
+        methods: x.methods,
+        rates,
+        steps,
+    }
+}
+
+// The tariff of a place.
+pub fn tariff_in(p: Place) -> Tariff
+    ensures { λ r. ⌜ r ≡ tariffIn p ⌝ }
+{
+    let rates = p.rates;
+    let steps = p.steps;
+    Tariff {
+        kind: p.kind,
+        n: p.n,
+        standing: p.standing,
+        regions: p.regions,
+        methods: p.methods,
+        rates,
+        steps,
+    }
+}
+
+// A place in another state.
+pub fn in_state(p: Place, state: State) -> Place
+    ensures { λ r. ⌜ r ≡ withState state p ⌝ }
+{
+    place_with(state, tariff_in(p))
+}
+
 // A place that holds nothing.
-fn empty_place() -> Place
+pub fn empty_place() -> Place
     ensures { λ r. ⌜ r ≡ empty ⌝ }
 {
     Place {
@@ -145,7 +184,7 @@ pub fn open_check(p: Place) -> Check
 }
 
 // 12: not open.
-fn closed_check(p: Place) -> Check
+pub fn closed_check(p: Place) -> Check
     ensures { λ r. ⌜ r ≡ closedCheck (p .state) ⌝ }
 {
     let state = p.state;
@@ -167,87 +206,9 @@ pub fn sheet_check(loaded: bool) -> Check
     }
 }
 
-// The answer of a check that refuses, with the book as it was.
-pub fn refused(b: Book, check: Check) -> Done
-    ensures { λ r. ⌜ (r .reply ≡ refusalOf check) × (r .months ≡ replicate 12 0) × (r .book ≡ b) ⌝ }
-{
-    let reply = match check {
-        Check::Pass => Reply::Accepted,
-        Check::Refuse(n) => Reply::Refused(n),
-    };
-    Done {
-        reply,
-        months: [0; 12],
-        book: b,
-    }
-}
-
-// A call that is accepted and leaves this book.
-pub fn accepted(b: Book) -> Done
-    ensures { λ r. ⌜ (r .reply ≡ Reply.Accepted) × (r .months ≡ replicate 12 0) × (r .book ≡ b) ⌝ }
-{
-    Done {
-        reply: Reply::Accepted,
-        months: [0; 12],
-        book: b,
-    }
-}
-
-// A place in another state.
-pub fn in_state(p: Place, state: State) -> Place
-    ensures { λ r. ⌜ r ≡ withState state p ⌝ }
-{
-    let rates = p.rates;
-    let steps = p.steps;
-    Place {
-        state,
-        kind: p.kind,
-        n: p.n,
-        standing: p.standing,
-        regions: p.regions,
-        methods: p.methods,
-        rates,
-        steps,
-    }
-}
-
-// The tariff of a place.
-pub fn tariff_in(p: Place) -> Tariff
-    ensures { λ r. ⌜ r ≡ tariffIn p ⌝ }
-{
-    let rates = p.rates;
-    let steps = p.steps;
-    Tariff {
-        kind: p.kind,
-        n: p.n,
-        standing: p.standing,
-        regions: p.regions,
-        methods: p.methods,
-        rates,
-        steps,
-    }
-}
-
-// A record of 13 numbers in a place, as a draft.
-fn draft_of(x: &[u32]) -> Place
-    requires { ⌜ length (now x) ≡ 13 ⌝ }
-    ensures { λ r. ⌜ r ≡ stored State.Draft (now (x .entry)) ⌝ }
-{
-    Place {
-        state: State::Draft,
-        kind: x[0],
-        n: x[1],
-        standing: x[2],
-        regions: x[3],
-        methods: x[4],
-        rates: [x[5], x[6], x[7], x[8]],
-        steps: [x[9], x[10], x[11], x[12]],
-    }
-}
-
 // The index of a code's place. A code outside 1 to 32 has none: no call passes its check, and any index serves.
 pub fn index_of(code: u32) -> usize
-    ensures { λ r. ⌜ (r < 32) × (codeCheck code ≡ Pass → suc r ≡ code) ⌝ }
+    ensures { λ r. ⌜ (r < 32) × (inside code ≡ true → suc r ≡ code) ⌝ }
 {
     let inside = code_check(code);
     let Check::Pass = inside else {
@@ -256,140 +217,42 @@ pub fn index_of(code: u32) -> usize
     (code - 1) as usize
 }
 
-// The answer of a check that refuses, with the place as it was.
-pub fn refuses(p: Place, check: Check) -> Settled
-    ensures { λ r. ⌜ (r .reply ≡ refusalOf check) × (r .months ≡ replicate 12 0) × (r .place ≡ p) ⌝ }
+// The answer of a call's checks: accepted, or the refusal's number.
+fn reply_of(check: Check) -> Reply
+    ensures { λ r. ⌜ r ≡ replyOf check ⌝ }
 {
-    let reply = match check {
+    match check {
         Check::Pass => Reply::Accepted,
         Check::Refuse(n) => Reply::Refused(n),
+    }
+}
+
+// That answer with the place of a code: as it was where a check refused, and else as the call leaves it.
+pub fn settled_by(check: Check, before: Place, after: Place) -> Settled
+    ensures { λ r. ⌜ r ≡ settledBy check before after ⌝ }
+{
+    let reply = reply_of(check);
+    let Check::Pass = check else {
+        return Settled {
+            reply,
+            months: [0; 12],
+            place: before,
+        };
     };
     Settled {
         reply,
         months: [0; 12],
-        place: p,
+        place: after,
     }
 }
 
-// Accepted, with the place after it.
-fn accepts(p: Place) -> Settled
-    ensures { λ r. ⌜ (r .reply ≡ Reply.Accepted) × (r .months ≡ replicate 12 0) × (r .place ≡ p) ⌝ }
+// That answer with a book.
+pub fn answered(check: Check, b: Book) -> Done
+    ensures { λ r. ⌜ r ≡ doneBy check b ⌝ }
 {
-    Settled {
-        reply: Reply::Accepted,
+    Done {
+        reply: reply_of(check),
         months: [0; 12],
-        place: p,
-    }
-}
-
-// PUT (code, tariff). 6, 7, 8. Else the place holds it as a draft, over any draft.
-fn put_at(code: u32, p: Place, x: &[u32]) -> Settled
-    ensures { λ r. ⌜ Settles (PUT code (now (x .entry))) code p r ⌝ }
-{
-    let inside = code_check(code);
-    let shut = open_check(p);
-    let record = tariff::check(x);
-    let Check::Pass = inside else {
-        return refuses(p, inside);
-    };
-    let Check::Pass = shut else {
-        return refuses(p, shut);
-    };
-    let Check::Pass = record else {
-        return refuses(p, record);
-    };
-    accepts(draft_of(x))
-}
-
-pub fn put(b: Book, code: u32, x: &[u32]) -> Done
-    ensures { λ r. ⌜ Does b (PUT code (now (x .entry))) r ⌝ }
-{
-    let at = index_of(code);
-    let mut next = b;
-    let p = next.places[at];
-    let settled = put_at(code, p, x);
-    let reply = settled.reply;
-    let months = settled.months;
-    let place = settled.place;
-    next.places[at] = place;
-    Done {
-        reply,
-        months,
-        book: next,
-    }
-}
-
-// CLOSE (code). 6, 9, 12. Else a draft again.
-fn close_at(code: u32, p: Place) -> Settled
-    ensures { λ r. ⌜ Settles (CLOSE code) code p r ⌝ }
-{
-    let inside = code_check(code);
-    let filled = empty_check(p);
-    let opened = closed_check(p);
-    let Check::Pass = inside else {
-        return refuses(p, inside);
-    };
-    let Check::Pass = filled else {
-        return refuses(p, filled);
-    };
-    let Check::Pass = opened else {
-        return refuses(p, opened);
-    };
-    accepts(in_state(p, State::Draft))
-}
-
-pub fn close(b: Book, code: u32) -> Done
-    ensures { λ r. ⌜ Does b (CLOSE code) r ⌝ }
-{
-    let at = index_of(code);
-    let mut next = b;
-    let p = next.places[at];
-    let settled = close_at(code, p);
-    let reply = settled.reply;
-    let months = settled.months;
-    let place = settled.place;
-    next.places[at] = place;
-    Done {
-        reply,
-        months,
-        book: next,
-    }
-}
-
-// DROP (code). 6, 9, 7. Else empty.
-fn drop_at(code: u32, p: Place) -> Settled
-    ensures { λ r. ⌜ Settles (DROP code) code p r ⌝ }
-{
-    let nothing = empty_place();
-    let inside = code_check(code);
-    let taken = empty_check(p);
-    let closed = open_check(p);
-    let Check::Pass = inside else {
-        return refuses(p, inside);
-    };
-    let Check::Pass = taken else {
-        return refuses(p, taken);
-    };
-    let Check::Pass = closed else {
-        return refuses(p, closed);
-    };
-    accepts(nothing)
-}
-
-pub fn drop(b: Book, code: u32) -> Done
-    ensures { λ r. ⌜ Does b (DROP code) r ⌝ }
-{
-    let at = index_of(code);
-    let mut next = b;
-    let p = next.places[at];
-    let settled = drop_at(code, p);
-    let reply = settled.reply;
-    let months = settled.months;
-    let place = settled.place;
-    next.places[at] = place;
-    Done {
-        reply,
-        months,
-        book: next,
+        book: b,
     }
 }

@@ -1,0 +1,70 @@
+-- What is known where a call is accepted: none of its refusals applies.
+-- Assumes nothing.
+use mathlib.Core.Path.{_≡_, refl}
+use mathlib.Core.Bool.{Bool, true, false, not}
+use mathlib.Core.Option.{Option, none, some}
+use Prim.Native.Nat.{ℕ}
+use Rattle.laws.proofs.Never.{never}
+use Rattle.refusal.specs.declared.Check.{Check}
+use Rattle.refusal.specs.declared.Check.the-variants.{Pass, Refuse}
+use Rattle.refusal.specs.Checks.{checked, need, given}
+use Rattle.tariff.specs.Tariff.{recordCheck}
+use Rattle.verdict.specs.Cells.{Cell, verdictAt, verdict, firstOver}
+use Rattle.book.specs.Calls.{Sheet, Record, Answer, accepted, refused, isAccepted}
+use Rattle.book.specs.Checks.{Holding, isOpen, figuresOf, inside, verdictAnswer, putAnswer, openAnswer, closeAnswer, dropAnswer}
+
+pub checked-accepted : (c : Check) (a : Answer) → isAccepted (checked refused c a) ≡ true → (c ≡ Pass) × (isAccepted a ≡ true)
+checked-accepted Pass a e = (refl, e)
+checked-accepted (Refuse n) a e = never (cc)
+
+pub need-accepted : (t : Bool) (n : ℕ) (a : Answer) → isAccepted (need refused t n a) ≡ true → (t ≡ true) × (isAccepted a ≡ true)
+need-accepted true n a e = (refl, e)
+need-accepted false n a e = never (cc)
+
+pub given-accepted : {B : Type 0} (o : Option B) (n : ℕ) (next : B → Answer) → isAccepted (given refused o n next) ≡ true
+    → (x : B) × (o ≡ some x) × (isAccepted (next x) ≡ true)
+given-accepted none n next e = never (cc)
+given-accepted (some x) n next e = (x, refl, e)
+
+verdict-accepted : (s : Sheet) (h : Holding) (f : Option Cell) → firstOver (figuresOf s) (h .tariff) ≡ f
+    → isAccepted (verdictAnswer (verdictAt (figuresOf s) (h .tariff) f)) ≡ true → firstOver (figuresOf s) (h .tariff) ≡ none
+verdict-accepted s h none q e = q
+verdict-accepted s h (some c) q e = never (cc)
+
+-- PUT: the code is in range, and the record passes refusal 8
+pub put-accepted : (k : ℕ) (held : Option Holding) (x : Record) → isAccepted (putAnswer k held x) ≡ true
+    → (inside k ≡ true) × (recordCheck x ≡ Pass)
+put-accepted k held x e =
+    let f = need-accepted (inside k) 6 _ e in
+    let g = need-accepted (not (isOpen held)) 7 _ (f .1) in
+    (f .0, checked-accepted (recordCheck x) accepted (g .1) .0)
+
+-- OPEN, CLOSE and DROP: the code is in range, and its place holds something
+pub close-accepted : (k : ℕ) (held : Option Holding) → isAccepted (closeAnswer k held) ≡ true
+    → (inside k ≡ true) × (h : Holding) × (held ≡ some h)
+close-accepted k held e =
+    let f = need-accepted (inside k) 6 _ e in
+    let g = given-accepted held 9 _ (f .1) in
+    (f .0, g .0, g .1)
+
+pub drop-accepted : (k : ℕ) (held : Option Holding) → isAccepted (dropAnswer k held) ≡ true → inside k ≡ true
+drop-accepted k held e = need-accepted (inside k) 6 _ e .0
+
+-- OPEN: a sheet is in force, and with it the tariff exceeds nowhere
+pub record Opens (k : ℕ) (held : Option Holding) (sheet : Option Sheet) : Type 0 where
+  pub code : inside k ≡ true
+  pub h : Holding
+  pub its : held ≡ some h
+  pub s : Sheet
+  pub in-force : sheet ≡ some s
+  pub none-over : firstOver (figuresOf s) (h .tariff) ≡ none
+
+pub open-accepted : (k : ℕ) (held : Option Holding) (sheet : Option Sheet) → isAccepted (openAnswer k held sheet) ≡ true → Opens k held sheet
+unfolding verdict
+open-accepted k held sheet e =
+    let f = need-accepted (inside k) 6 _ e in
+    let g = given-accepted held 9 _ (f .1) in
+    let d = need-accepted (not (g .0 .isOpen)) 7 _ (g .2) in
+    let i = given-accepted sheet 10 _ (d .1) in
+    let v = verdict-accepted (i .0) (g .0) (firstOver (figuresOf (i .0)) (g .0 .tariff)) refl (i .2) in
+    record { code = f .0; h = g .0; its = g .1; s = i .0; in-force = i .1; none-over = v }

@@ -1,0 +1,66 @@
+-- How the code goes about OPEN, CLOSE and DROP, the calls on a code that take nothing else, and about PUT: the act, its checks as one,
+-- the answer behind them and the place that it leaves.
+-- Assumes nothing.
+use mathlib.Core.Path.{_≡_}
+use mathlib.Core.Bool.{Bool, true}
+use Prim.Native.Nat.{ℕ}
+use Rattle.refusal.specs.declared.Check.{Check}
+use Rattle.refusal.specs.declared.Check.the-variants.{Pass}
+use Rattle.refusal.specs.Checks.{unless, first}
+use Rattle.benchmark.specs.declared.Benchmarks.{Benchmarks}
+use Rattle.benchmark.specs.Lawful.{Lawful}
+use Rattle.tariff.specs.Tariff.{recordCheck}
+use Rattle.verdict.specs.Cells.{verdict}
+use Rattle.book.specs.declared.State.{State}
+use Rattle.book.specs.declared.State.the-variants as state
+use Rattle.book.specs.declared.Place.{Place}
+use Rattle.book.specs.declared.Settled.{Settled}
+use Rattle.book.specs.declared.Book.{Book}
+use Rattle.book.specs.Calls.{Record, Act, OPEN, CLOSE, DROP, Answer, accepted}
+use Rattle.book.specs.Checks.{verdictAnswer}
+use Rattle.book.specs.Book.{empty, tariffIn, withState, Reachable}
+use Rattle.book.specs.Settling.{codeCheck, emptyCheck, openCheck, closedCheck, Settles}
+use Rattle.stands.specs.Stands.{Holds}
+use Rattle.codes.specs.declared.CodeAct.{CodeAct}
+use Rattle.codes.specs.declared.CodeAct.the-variants.{Open, Close, Drop}
+
+abbrev pub actOn : CodeAct → ℕ → Act
+actOn Open k = OPEN k
+actOn Close k = CLOSE k
+actOn Drop k = DROP k
+
+-- behind 6 and 9
+abbrev pub restOn : CodeAct → State → (loaded : Bool) → Check
+restOn Open s loaded = first (openCheck s) (unless loaded 10 Pass)
+restOn Close s loaded = closedCheck s
+restOn Drop s loaded = openCheck s
+
+abbrev pub nextOn : CodeAct → Benchmarks → Place → Answer
+nextOn Open figures p = verdictAnswer (verdict figures (tariffIn p))
+nextOn Close figures p = accepted
+nextOn Drop figures p = accepted
+
+abbrev pub placeOn : CodeAct → Place → Place
+placeOn Open p = withState state.Open p
+placeOn Close p = withState state.Draft p
+placeOn Drop p = empty
+
+-- what an act comes to on the place of a code, with the figures of the sheet that is loaded, if one is
+abbrev pub SettlesOn : CodeAct → ℕ → Place → Bool → Benchmarks → Settled → Type 0
+SettlesOn a k p loaded figures r =
+    Settles (first (codeCheck k) (first (emptyCheck (p .state)) (restOn a (p .state) loaded))) (nextOn a figures p) p (placeOn a p) r
+
+-- only OPEN judges a tariff, and asks something of the place and the figures, and of the book
+abbrev pub Judgeable : CodeAct → Place → Bool → Benchmarks → Type 0
+Judgeable Open p loaded figures = (loaded ≡ true → Lawful figures) × Holds p
+Judgeable Close p loaded figures = Unit {0}
+Judgeable Drop p loaded figures = Unit {0}
+
+abbrev pub Handed : CodeAct → Book → Type 0
+Handed Open b = Reachable b
+Handed Close b = Unit {0}
+Handed Drop b = Unit {0}
+
+-- PUT
+abbrev pub putChecks : ℕ → State → Record → Check
+putChecks k s x = first (codeCheck k) (first (openCheck s) (recordCheck x))

@@ -1,0 +1,177 @@
+// The calls on a code: PUT, OPEN, CLOSE and DROP.
+// Promise: each answers and leaves what `step` of the book's definitions says, on refused input too; 11 carries the first cell that
+// exceeds, t months and their excess. `act_on` is the one body of the calls that take a code alone: they differ in what they do to one
+// place. OPEN requires document 01's own sentence on the book, `Reachable`; the others require nothing.
+ghost use mathlib.Core.Path.{_≡_};
+ghost use mathlib.Core.Bool.{true};
+ghost use mathlib.Core.List.{_++_};
+ghost use Prim.Native.Nat.{_≤_};
+ghost use lib.ListN.{drop, replicate};
+ghost use Rattle.benchmark.specs.Lawful.{Lawful};
+ghost use Rattle.tariff.specs.Tariff.{tariffOf};
+ghost use Rattle.book.specs.Calls.{PUT, OPEN, CLOSE, DROP, call};
+ghost use Rattle.book.specs.Book.{placeWith, Reachable};
+ghost use Rattle.book.specs.Promises.{Does};
+ghost use Rattle.book.specs.Settling.{settledBy};
+ghost use Rattle.stands.specs.Stands.{Holds};
+ghost use Rattle.codes.specs.Codes.{actOn, SettlesOn, Judgeable, Handed, putChecks};
+use benchmark::Benchmarks;
+use book::Book;
+use book::Done;
+use book::Place;
+use book::Reply;
+use book::Settled;
+use book::State;
+use refusal::Check;
+use verdict::Outcome;
+
+// The calls that take a code alone.
+pub enum CodeAct {
+    Open,
+    Close,
+    Drop,
+}
+
+// t months alike, and no others.
+fn equal_months(month: u32, t: usize) -> [u32; 12]
+    requires { ⌜ t ≤ 12 ⌝ }
+    ensures { λ r. ⌜ r ≡ replicate t month ++ drop t (replicate 12 0) ⌝ }
+{
+    let mut months = [0u32; 12];
+    let mut i: usize = 0;
+    while i < t {
+        months[i] = month;
+        i += 1;
+    }
+    months
+}
+
+// OPEN (code). 6, 9, 7, 10, 11. Else open; the answer carries the number of cells.
+fn open_at(code: u32, p: Place, loaded: bool, figures: Benchmarks) -> Settled
+    requires { ⌜ (loaded ≡ true → Lawful figures) × Holds p ⌝ }
+    ensures { λ r. ⌜ SettlesOn CodeAct.Open code p loaded figures r ⌝ }
+{
+    let shut = refusal::first(book::open_check(p), book::sheet_check(loaded));
+    let filled = refusal::first(book::empty_check(p), shut);
+    let checked = refusal::first(book::code_check(code), filled);
+    let Check::Pass = checked else {
+        return book::settled_by(checked, p, p);
+    };
+    let opened = book::in_state(p, State::Open);
+    let outcome = verdict::verdict_of(figures, book::tariff_in(p));
+    match outcome {
+        Outcome::Opens(cells) => Settled {
+            reply: Reply::Opened(cells),
+            months: [0; 12],
+            place: opened,
+        },
+        Outcome::Over(region, method, month, excess) => {
+            let t = figures.months;
+            Settled {
+                reply: Reply::Over(region, method, t, excess),
+                months: equal_months(month, t as usize),
+                place: p,
+            }
+        }
+    }
+}
+
+// CLOSE (code). 6, 9, 12. Else a draft again.
+fn close_at(code: u32, p: Place, loaded: bool, figures: Benchmarks) -> Settled
+    ensures { λ r. ⌜ SettlesOn CodeAct.Close code p loaded figures r ⌝ }
+{
+    let filled = refusal::first(book::empty_check(p), book::closed_check(p));
+    let checked = refusal::first(book::code_check(code), filled);
+    book::settled_by(checked, p, book::in_state(p, State::Draft))
+}
+
+// DROP (code). 6, 9, 7. Else empty.
+fn drop_at(code: u32, p: Place, loaded: bool, figures: Benchmarks) -> Settled
+    ensures { λ r. ⌜ SettlesOn CodeAct.Drop code p loaded figures r ⌝ }
+{
+    let filled = refusal::first(book::empty_check(p), book::open_check(p));
+    let checked = refusal::first(book::code_check(code), filled);
+    book::settled_by(checked, p, book::empty_place())
+}
+
+fn settle(act: CodeAct, code: u32, p: Place, loaded: bool, figures: Benchmarks) -> Settled
+    requires { ⌜ Judgeable act p loaded figures ⌝ }
+    ensures { λ r. ⌜ SettlesOn act code p loaded figures r ⌝ }
+{
+    match act {
+        CodeAct::Open => open_at(code, p, loaded, figures),
+        CodeAct::Close => close_at(code, p, loaded, figures),
+        CodeAct::Drop => drop_at(code, p, loaded, figures),
+    }
+}
+
+// The place of the code is read, settled and stored again.
+pub fn act_on(b: Book, code: u32, act: CodeAct) -> Done
+    requires { ⌜ Handed act b ⌝ }
+    ensures { λ r. ⌜ Does b (call (actOn act code)) r ⌝ }
+{
+    let at = book::index_of(code);
+    let mut next = b;
+    let p = next.places[at];
+    let figures = next.benchmarks;
+    let settled = settle(act, code, p, next.loaded, figures);
+    let reply = settled.reply;
+    let months = settled.months;
+    let place = settled.place;
+    next.places[at] = place;
+    Done {
+        reply,
+        months,
+        book: next,
+    }
+}
+
+pub fn open(b: Book, code: u32) -> Done
+    requires { ⌜ Reachable b ⌝ }
+    ensures { λ r. ⌜ Does b (call (OPEN code)) r ⌝ }
+{
+    act_on(b, code, CodeAct::Open)
+}
+
+pub fn close(b: Book, code: u32) -> Done
+    ensures { λ r. ⌜ Does b (call (CLOSE code)) r ⌝ }
+{
+    act_on(b, code, CodeAct::Close)
+}
+
+pub fn drop(b: Book, code: u32) -> Done
+    ensures { λ r. ⌜ Does b (call (DROP code)) r ⌝ }
+{
+    act_on(b, code, CodeAct::Drop)
+}
+
+// PUT (code, tariff). 6, 7, 8. Else the place holds it as a draft, over any draft.
+fn put_at(code: u32, p: Place, x: &[u32]) -> Settled
+    ensures { λ r. ⌜ r ≡ settledBy (putChecks code (p .state) (now (x .entry))) p (placeWith State.Draft (tariffOf (now (x .entry)))) ⌝ }
+{
+    let shut = refusal::first(book::open_check(p), tariff::check(x));
+    let checked = refusal::first(book::code_check(code), shut);
+    let Check::Pass = checked else {
+        return book::settled_by(checked, p, p);
+    };
+    let x = tariff::tariff_of(x);
+    book::settled_by(checked, p, book::place_with(State::Draft, x))
+}
+
+pub fn put(b: Book, code: u32, x: &[u32]) -> Done
+    ensures { λ r. ⌜ Does b (call (PUT code (now (x .entry)))) r ⌝ }
+{
+    let at = book::index_of(code);
+    let mut next = b;
+    let p = next.places[at];
+    let settled = put_at(code, p, x);
+    let reply = settled.reply;
+    let months = settled.months;
+    let place = settled.place;
+    next.places[at] = place;
+    Done {
+        reply,
+        months,
+        book: next,
+    }
+}

@@ -1,0 +1,107 @@
+-- Every book that stands is reachable: SET its sheet, if it has one, and then place by place PUT the record and OPEN what is open.
+-- Assumes nothing.
+use mathlib.Core.Path.{_≡_, refl, sym, _∙_, ap, subst}
+use mathlib.Core.Bool.{Bool, true, false}
+use mathlib.Core.List.{List, [], _∷_, _++_, map}
+use Prim.Native.Nat.{ℕ, zero, suc, _+_, _<_}
+use native.Mathlib.Omega.{arith}
+use lib.ListN.{length, getD, replicate, length-append}
+use lib.Seq.{append-snoc, getD-append-seam, set-append-seam}
+use Rattle.refusal.specs.declared.Check.the-variants.{Pass}
+use Rattle.refusal.specs.Checks.{checked}
+use Rattle.benchmark.specs.declared.Benchmarks.{Benchmarks}
+use Rattle.tariff.specs.declared.Tariff.{Tariff}
+use Rattle.tariff.specs.Tariff.{tariffOf, recordCheck}
+use Rattle.verdict.specs.Cells.{cellCount, verdict}
+use Rattle.book.specs.declared.State.{State}
+use Rattle.book.specs.declared.State.the-variants.{Empty, Draft, Open}
+use Rattle.book.specs.declared.Place.{Place}
+use Rattle.book.specs.declared.Book.{Book}
+use Rattle.book.specs.Calls.{Sheet, Record, SET, PUT, OPEN, call, Answer, accepted, opened, refused}
+use Rattle.book.specs.Checks.{Holding, figuresOf, inside, verdictAnswer, putAnswer, openAnswer}
+use Rattle.book.specs.Book.{empty, placeWith, tariffIn, withState, fresh, beyond, held, sheetIf, sheetIn, inForce, withPlaces, withPlace, under, changed, Reachable}
+use Rattle.book.proofs.Places.{in-range}
+use Rattle.book.proofs.Reached.{fresh-reachable, step-reachable}
+use Rattle.book.proofs.Steps.{made}
+use Rattle.stands.specs.Stands.{Recorded, MayOpen, FitsAs, Fits, Stands}
+
+-- the book with places xs, then p, then ys is reachable
+abbrev Reached : Book → List Place → Place → List Place → Type 0
+Reached b xs p ys = Reachable (withPlaces b (xs ++ p ∷ ys))
+
+-- a tariff that may be open: a sheet is loaded, and OPEN answers with the number of cells
+may-open : (l : Bool) (s : Sheet) (k : ℕ) (x : Tariff) → inside k ≡ true → MayOpen (sheetIf l s) x
+    → openAnswer k (held (placeWith Draft x)) (sheetIf l s) ≡ opened (cellCount x)
+unfolding verdict
+may-open true s k x r h = rw (r, h)
+may-open false s k x r h = absurd h
+
+-- one place: the code after those of xs
+module _ (b : Book) (xs ys : List Place) (within : length xs < 32) where
+  code : inside (suc (length xs)) ≡ true
+  code = in-range (suc (length xs)) (omega arith) (omega arith)
+
+  put-there : (y : Record) → recordCheck y ≡ Pass → Reached b xs empty ys → Reached b xs (placeWith Draft (tariffOf y)) ys
+  put-there y e r =
+      let d = withPlaces b (xs ++ empty ∷ ys) in
+      let k = suc (length xs) in
+      let a : putAnswer k (held (getD (xs ++ empty ∷ ys) (length xs) beyond)) y ≡ accepted = rw (code, getD-append-seam xs empty ys beyond, e) refl in
+      let m = made d (call (PUT k y)) accepted a refl in
+      subst Reachable (m ∙ ap (withPlaces b) (set-append-seam xs empty ys (placeWith Draft (tariffOf y)))) (step-reachable r (call (PUT k y)))
+
+  open-there : (x : Tariff) → MayOpen (inForce b) x → Reached b xs (placeWith Draft x) ys → Reached b xs (placeWith Open x) ys
+  open-there x h r =
+      let p = placeWith Draft x in
+      let d = withPlaces b (xs ++ p ∷ ys) in
+      let k = suc (length xs) in
+      let it = getD-append-seam xs p ys beyond in
+      let a : openAnswer k (held (getD (xs ++ p ∷ ys) (length xs) beyond)) (inForce b) ≡ opened (cellCount x) = ap (λ q. openAnswer k (held q) (inForce b)) it ∙ may-open (b .loaded) (sheetIn b) k x code h in
+      let m = made d (call (OPEN k)) (opened (cellCount x)) a refl in
+      let n = ap (λ q. withPlace d k (withState Open q)) it ∙ ap (withPlaces b) (set-append-seam xs p ys (placeWith Open x)) in
+      subst Reachable (m ∙ n) (step-reachable r (call (OPEN k)))
+
+  draft-there : (x : Tariff) → Recorded x → Reached b xs empty ys → Reached b xs (placeWith Draft x) ys
+  draft-there x h r = rw (h .2) (put-there (h .0) (h .1) r)
+
+  place-there : (q : State) (p : Place) → p .state ≡ q → FitsAs (inForce b) q p → Reached b xs empty ys → Reached b xs p ys
+  place-there Empty p s h r = rw h r
+  place-there Draft p s h r = subst (λ q. Reached b xs (placeWith q (tariffIn p)) ys) (sym s) (draft-there (tariffIn p) h r)
+  place-there Open p s h r = subst (λ q. Reached b xs (placeWith q (tariffIn p)) ys) (sym s) (open-there (tariffIn p) (h .1) (draft-there (tariffIn p) (h .0) r))
+
+-- all places: xs stand already, and ps come in place of as many empty ones
+fill : (b : Book) (xs ps : List Place) → length xs + length ps ≡ 32 → ((i : ℕ) → i < length ps → Fits (inForce b) (getD ps i beyond))
+    → Reachable (withPlaces b (xs ++ replicate (length ps) empty)) → Reachable (withPlaces b (xs ++ ps))
+fill b xs [] e h r = r
+fill b xs (p ∷ ps) e h r =
+    let ys = replicate (length ps) empty in
+    let here = place-there b xs ys (omega arith) (p .state) p refl (h 0 (omega arith)) r in
+    let rest = fill b (xs ++ (p ∷ [])) ps (simp length-append (omega arith)) (λ i l. h (suc i) (omega arith)) in
+    rw append-snoc at (rest (rw append-snoc here))
+
+-- the sheet, in a book with no tariffs
+empty-under : (f : Benchmarks) (n : ℕ) → map (under f) (replicate n empty) ≡ replicate n empty
+empty-under f zero = refl
+empty-under f (suc n) = ap (_∷_ empty) (empty-under f n)
+
+sheet-there : (b : Book) → Stands b → Reachable (withPlaces b (replicate 32 empty))
+sheet-there b h = go (b .loaded) refl
+  where
+    go : (l : Bool) → b .loaded ≡ l → Reachable (withPlaces b (replicate 32 empty))
+    go false e =
+        let w = h .without-sheet e in
+        let same : withPlaces b (replicate 32 empty) ≡ fresh =
+        λ i. record { loaded = e i; fields = w .0 i; period = w .1 i; benchmarks = w .2 i; places = replicate 32 empty } in
+        subst Reachable (sym same) fresh-reachable
+    go true e =
+        let w = h .with-sheet e in
+        let s = sheetIn b in
+        let m = made fresh (call (SET s)) accepted (ap (λ c. checked refused c accepted) (w .0)) refl in
+        let same : withPlaces b (replicate 32 empty) ≡ changed fresh (SET s) =
+        λ i. record { loaded = e i; fields = b .fields; period = b .period; benchmarks = w .1 i; places = sym (empty-under (figuresOf s) 32) i } in
+        subst Reachable (m ∙ sym same) (step-reachable fresh-reachable (call (SET s)))
+
+pub stands-reachable : (b : Book) → Stands b → Reachable b
+stands-reachable b h =
+    fill b [] (b .places) (omega (arith, h .size))
+    (λ i l. h .places (suc i) (in-range (suc i) (omega arith) (omega (arith, h .size))))
+    (subst (λ n. Reachable (withPlaces b (replicate n empty))) (sym (h .size)) (sheet-there b h))

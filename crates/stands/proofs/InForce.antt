@@ -1,0 +1,44 @@
+-- What a call that is handed a reachable book knows of it: the sheet in force has its figures beside it, they are lawful, and each place
+-- holds nothing or a valid tariff.
+-- Assumes nothing.
+use mathlib.Core.Path.{_≡_, sym, ap, _∙_, subst}
+use mathlib.Core.Bool.{true}
+use Prim.Native.Nat.{ℕ, suc, _<_}
+use native.Mathlib.Omega.{arith}
+use lib.ListN.{getD}
+use Rattle.benchmark.specs.Lawful.{Lawful}
+use Rattle.benchmark.proofs.Lawful.{lawful}
+use Rattle.tariff.specs.declared.Tariff.{Tariff}
+use Rattle.tariff.specs.Tariff.{validTariff}
+use Rattle.book.specs.declared.State.{State}
+use Rattle.book.specs.declared.State.the-variants.{Empty, Draft, Open}
+use Rattle.book.specs.declared.Place.{Place}
+use Rattle.book.specs.declared.Book.{Book}
+use Rattle.book.specs.Calls.{Sheet}
+use Rattle.book.specs.Checks.{figuresOf}
+use Rattle.book.specs.Book.{beyond, tariffIn, sheetIn, inForce, Reachable}
+use Rattle.book.proofs.Places.{in-range, record-valid}
+use mathlib.Core.Option.{Option}
+use Rattle.stands.specs.Stands.{Recorded, FitsAs, HoldsAs, Holds}
+use Rattle.stands.proofs.Kept.{reachable-stands}
+
+module _ (b : Book) (from : Reachable b) where
+  module _ (loaded : b .loaded ≡ true) where
+    pub figures-are : b .benchmarks ≡ figuresOf (sheetIn b)
+    figures-are = reachable-stands b from .with-sheet loaded .1
+
+    pub figures-lawful : Lawful (b .benchmarks)
+    figures-lawful = subst Lawful (sym figures-are) (lawful (b .fields) (b .period) (reachable-stands b from .with-sheet loaded .0))
+
+  valid : (x : Tariff) → Recorded x → validTariff x ≡ true
+  valid x r = ap validTariff (r .2) ∙ record-valid (r .0) (r .1)
+
+  holds : (s : Option Sheet) (q : State) (p : Place) → FitsAs s q p → HoldsAs q (tariffIn p)
+  holds s Empty p f = tt
+  holds s Draft p f = valid (tariffIn p) f
+  holds s Open p f = valid (tariffIn p) (f .0)
+
+  pub holds-at : (i : ℕ) → i < 32 → Holds (getD (b .places) i beyond)
+  holds-at i h =
+      let p = getD (b .places) i beyond in
+      holds (inForce b) (p .state) p (reachable-stands b from .places (suc i) (in-range (suc i) (omega arith) (omega arith)))

@@ -1,0 +1,109 @@
+-- Every reachable book stands: a fresh book does, and each accepted call keeps it so.
+-- Assumes nothing.
+use mathlib.Core.Path.{_≡_, refl, sym, _∙_, ap, subst}
+use mathlib.Core.Bool.{Bool, true, false, cond}
+use mathlib.Core.Option.{Option, none, some}
+use Prim.Native.Nat.{ℕ, zero, suc}
+use native.Mathlib.Omega.{arith}
+use lib.Dec.{eqb}
+use lib.ListN.{length-map, length-replicate, getD-replicate}
+use Rattle.laws.proofs.Never.{never}
+use Rattle.refusal.specs.declared.Check.the-variants.{Pass}
+use Rattle.benchmark.specs.Benchmark.{setCheck}
+use Rattle.tariff.specs.declared.Tariff.{Tariff}
+use Rattle.verdict.specs.Cells.{Cell, firstOver}
+use Rattle.book.specs.declared.State.{State}
+use Rattle.book.specs.declared.State.the-variants.{Empty, Draft, Open}
+use Rattle.book.specs.declared.Place.{Place}
+use Rattle.book.specs.declared.Book.{Book}
+use Rattle.book.specs.Calls.{Sheet, Act, SET, PUT, OPEN, CLOSE, DROP, accepted, isAccepted, isNone}
+use Rattle.book.specs.Checks.{Holding, figuresOf, complies, inside, answer}
+use Rattle.book.specs.Book.{empty, tariffIn, withState, fresh, beyond, placeOf, heldIn, held, inForce, bookReadings, withPlace, openIf, stateUnder, under, changed, Reachable}
+use Rattle.book.proofs.Places.{code-range, at-set, length-setPlace, at-map}
+use Rattle.book.proofs.Accepted.{checked-accepted, put-accepted, close-accepted, drop-accepted, open-accepted}
+use Rattle.book.proofs.Reached.{always}
+use Rattle.stands.specs.Stands.{Recorded, FitsAs, Fits, Stands}
+
+-- a place that holds something holds the tariff of a record that passes refusal 8
+recorded : (f : Option Sheet) (s : State) (p : Place) → FitsAs f s p → (h : Holding) → heldIn s (tariffIn p) ≡ some h
+    → Recorded (tariffIn p) × (h .tariff ≡ tariffIn p)
+recorded f Empty p w h e = never (cc)
+recorded f Draft p w h e = (w, ap (λ o. tariffFrom o) (sym e))
+  where
+    tariffFrom : Option Holding → Tariff
+    tariffFrom none = tariffIn p
+    tariffFrom (some g) = g .tariff
+recorded f Open p w h e = (w .0, ap (λ o. tariffFrom o) (sym e))
+  where
+    tariffFrom : Option Holding → Tariff
+    tariffFrom none = tariffIn p
+    tariffFrom (some g) = g .tariff
+
+-- a sheet comes in
+none-of : (o : Option Cell) → isNone o ≡ true → o ≡ none
+none-of none e = refl
+none-of (some c) e = never (cc)
+
+fits-under : (f : Option Sheet) (s : Sheet) (q : State) (p : Place) → FitsAs f q p → Fits (some s) (withState (stateUnder (figuresOf s) q (tariffIn p)) p)
+fits-under f s Empty p h = ap (withState Empty) h
+fits-under f s Draft p h = h
+fits-under f s Open p h = go (complies (figuresOf s) (tariffIn p)) refl
+  where
+    go : (t : Bool) → complies (figuresOf s) (tariffIn p) ≡ t → Fits (some s) (withState (openIf t) p)
+    go true e = (h .0, none-of (firstOver (figuresOf s) (tariffIn p)) e)
+    go false e = h .0
+
+-- one place is set
+stands-place : (b : Book) (k : ℕ) (p : Place) → Stands b → inside k ≡ true → Fits (inForce b) p → Stands (withPlace b k p)
+stands-place b k p h r q =
+    record {
+      size = length-setPlace (b .places) k p ∙ h .size;
+      places = λ j o. subst (Fits (inForce b)) (sym (at-set (λ d. d) (b .places) p (h .size) k j (code-range k r))) (either j o (eqb k j));
+      without-sheet = h .without-sheet;
+      with-sheet = h .with-sheet;
+    }
+  where
+    either : (j : ℕ) → inside j ≡ true → (t : Bool) → Fits (inForce b) (cond t p (placeOf (b .places) j))
+    either j o true = q
+    either j o false = h .places j o
+
+-- an accepted call
+stands-changed : (b : Book) → Stands b → (a : Act) → isAccepted (answer (bookReadings b) a) ≡ true → Stands (changed b a)
+stands-changed b h (SET s) e =
+    record {
+      size = length-map (b .places) (under (figuresOf s)) ∙ h .size;
+      places = λ k o.
+          let p = placeOf (b .places) k in
+          subst (Fits (some s)) (sym (at-map (figuresOf s) (b .places) k)) (fits-under (inForce b) s (p .state) p (h .places k o));
+      without-sheet = λ l. never (cc);
+      with-sheet = λ l. (checked-accepted (setCheck (s .fields) (s .period)) accepted e .0, refl);
+    }
+stands-changed b h (PUT k x) e =
+    let f = put-accepted k (held (placeOf (b .places) k)) x e in
+    stands-place b k _ h (f .0) (x, f .1, refl)
+stands-changed b h (OPEN k) e =
+    let p = placeOf (b .places) k in
+    let f = open-accepted k (held p) (inForce b) e in
+    let r = recorded (inForce b) (p .state) p (h .places k (f .code)) (f .h) (f .its) in
+    stands-place b k (withState Open p) h (f .code) (r .0, rw (f .in-force, ← r .1) (f .none-over))
+stands-changed b h (CLOSE k) e =
+    let p = placeOf (b .places) k in
+    let f = close-accepted k (held p) e in
+    stands-place b k (withState Draft p) h (f .0) (recorded (inForce b) (p .state) p (h .places k (f .0)) (f .1) (f .2) .0)
+stands-changed b h (DROP k) e = stands-place b k empty h (drop-accepted k (held (placeOf (b .places) k)) e) refl
+
+fresh-fits : (k : ℕ) → inside k ≡ true → Fits none (placeOf (fresh .places) k)
+fresh-fits zero o = absurd (omega (arith, code-range 0 o .0))
+fresh-fits (suc i) o = rw (getD-replicate 32 i empty beyond (omega (arith, code-range (suc i) o .1))) refl
+
+stands-fresh : Stands fresh
+stands-fresh =
+    record {
+      size = length-replicate 32 empty;
+      places = fresh-fits;
+      without-sheet = λ l. (refl, refl, refl);
+      with-sheet = λ l. never (cc);
+    }
+
+pub reachable-stands : (b : Book) → Reachable b → Stands b
+reachable-stands b r = always Stands stands-fresh stands-changed b r

@@ -1,0 +1,4 @@
+pub mod Kept
+pub mod InForce
+pub mod Built
+pub mod Exactly

@@ -1,0 +1,56 @@
+-- "A book handed to a call is one that some list of calls from a fresh book leaves": what such a book is, read from the book alone
+-- (proofs/Exactly.antt, `reachable-exactly`).
+-- Assumes nothing.
+use mathlib.Core.Path.{_≡_}
+use mathlib.Core.Bool.{true, false}
+use mathlib.Core.Option.{Option, none, some}
+use Prim.Native.Nat.{ℕ}
+use lib.ListN.{length}
+use Rattle.refusal.specs.declared.Check.the-variants.{Pass}
+use Rattle.benchmark.specs.Benchmark.{setCheck}
+use Rattle.tariff.specs.declared.Tariff.{Tariff}
+use Rattle.tariff.specs.Tariff.{tariffOf, validTariff, recordCheck}
+use Rattle.verdict.specs.Cells.{firstOver}
+use Rattle.book.specs.declared.State.{State}
+use Rattle.book.specs.declared.State.the-variants.{Empty, Draft, Open}
+use Rattle.book.specs.declared.Place.{Place}
+use Rattle.book.specs.declared.Book.{Book}
+use Rattle.book.specs.Calls.{Sheet, Record}
+use Rattle.book.specs.Checks.{figuresOf, inside}
+use Rattle.book.specs.Book.{empty, tariffIn, fresh, placeOf, sheetIn, inForce}
+
+-- a tariff that PUT accepts: that of a record that passes refusal 8
+abbrev pub Recorded : Tariff → Type 0
+Recorded x = (y : Record) × (recordCheck y ≡ Pass) × (x ≡ tariffOf y)
+
+-- a tariff that may be open: there is a sheet, and with it the tariff exceeds in no offered cell
+abbrev pub MayOpen : Option Sheet → Tariff → Type 0
+MayOpen none x = ⊥
+MayOpen (some s) x = firstOver (figuresOf s) x ≡ none
+
+-- what may stand in a place, by its state: nothing, with zeros; such a tariff as a draft; or one that may be open
+abbrev pub FitsAs : Option Sheet → State → Place → Type 0
+FitsAs s Empty p = p ≡ empty
+FitsAs s Draft p = Recorded (tariffIn p)
+FitsAs s Open p = Recorded (tariffIn p) × MayOpen s (tariffIn p)
+
+abbrev pub Fits : Option Sheet → Place → Type 0
+Fits s p = FitsAs s (p .state) p
+
+-- 32 places, each with what may stand there; without a sheet, all beside the places is as in a fresh book; with one, the sheet
+-- passes SET's checks and has its figures beside it
+pub record Stands (b : Book) : Type 0 where
+  pub size : length (b .places) ≡ 32
+  pub places : (k : ℕ) → inside k ≡ true → Fits (inForce b) (placeOf (b .places) k)
+  pub without-sheet : b .loaded ≡ false
+      → (b .fields ≡ fresh .fields) × (b .period ≡ fresh .period) × (b .benchmarks ≡ fresh .benchmarks)
+  pub with-sheet : b .loaded ≡ true → (setCheck (b .fields) (b .period) ≡ Pass) × (b .benchmarks ≡ figuresOf (sheetIn b))
+
+-- what a call that judges a place asks of it: where it holds a tariff, a valid one
+abbrev pub HoldsAs : State → Tariff → Type 0
+HoldsAs Empty x = Unit {0}
+HoldsAs Draft x = validTariff x ≡ true
+HoldsAs Open x = validTariff x ≡ true
+
+abbrev pub Holds : Place → Type 0
+Holds p = HoldsAs (p .state) (tariffIn p)

@@ -9,8 +9,8 @@ ghost use Prim.Native.Nat.{_≤_};
 ghost use lib.ListN.{drop, replicate};
 ghost use Rattle.benchmark.specs.Lawful.{Lawful};
 ghost use Rattle.tariff.specs.Tariff.{tariffOf};
-ghost use Rattle.book.specs.Calls.{PUT, OPEN, CLOSE, DROP, call, accepted};
-ghost use Rattle.book.specs.Book.{placeWith, Reachable};
+ghost use Rattle.book.specs.Calls.{PUT, call, accepted};
+ghost use Rattle.book.specs.Book.{placeWith};
 ghost use Rattle.book.specs.Promises.{Does};
 ghost use Rattle.book.specs.Settling.{Settles};
 ghost use Rattle.stands.specs.Stands.{Holds};
@@ -102,7 +102,7 @@ fn settle(act: CodeAct, code: u32, p: Place, loaded: bool, figures: Benchmarks) 
     }
 }
 
-// The place of the code is read, settled and stored again.
+// OPEN, CLOSE or DROP: the place of the code is read, settled and stored again.
 pub fn act_on(b: Book, code: u32, act: CodeAct) -> Done
     requires { ⌜ Handed act b ⌝ }
     ensures { λ r. ⌜ Does b (call (actOn act code)) r ⌝ }
@@ -121,25 +121,6 @@ pub fn act_on(b: Book, code: u32, act: CodeAct) -> Done
         months,
         book: next,
     }
-}
-
-pub fn open(b: Book, code: u32) -> Done
-    requires { ⌜ Reachable b ⌝ }
-    ensures { λ r. ⌜ Does b (call (OPEN code)) r ⌝ }
-{
-    act_on(b, code, CodeAct::Open)
-}
-
-pub fn close(b: Book, code: u32) -> Done
-    ensures { λ r. ⌜ Does b (call (CLOSE code)) r ⌝ }
-{
-    act_on(b, code, CodeAct::Close)
-}
-
-pub fn drop(b: Book, code: u32) -> Done
-    ensures { λ r. ⌜ Does b (call (DROP code)) r ⌝ }
-{
-    act_on(b, code, CodeAct::Drop)
 }
 
 // PUT (code, tariff). 6, 7, 8. Else the place holds it as a draft, over any draft.

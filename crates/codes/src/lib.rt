@@ -51,8 +51,9 @@ fn open_at(code: u32, p: Place, loaded: bool, figures: Benchmarks) -> Settled
     requires { ⌜ (loaded ≡ true → Lawful figures) × Holds p ⌝ }
     ensures { λ r. ⌜ SettlesOn CodeAct.Open code p loaded figures r ⌝ }
 {
-    let shut = refusal::first(book::open_check(p), book::sheet_check(loaded));
-    let checked = book::held_check(code, p, shut);
+    let shut = book::open_check(p);
+    let sheet = book::sheet_check(loaded);
+    let checked = book::held_check(code, p, refusal::first(shut, sheet));
     let Check::Pass = checked else {
         return book::settled_by(checked, p, p);
     };
@@ -88,7 +89,8 @@ fn drop_at(code: u32, p: Place, loaded: bool, figures: Benchmarks) -> Settled
     ensures { λ r. ⌜ SettlesOn CodeAct.Drop code p loaded figures r ⌝ }
 {
     let checked = book::held_check(code, p, book::open_check(p));
-    book::settled_by(checked, p, book::empty_place())
+    let nothing = book::empty_place();
+    book::settled_by(checked, p, nothing)
 }
 
 fn settle(act: CodeAct, code: u32, p: Place, loaded: bool, figures: Benchmarks) -> Settled
@@ -127,8 +129,10 @@ pub fn act_on(b: Book, code: u32, act: CodeAct) -> Done
 fn put_at(code: u32, p: Place, x: &[u32]) -> Settled
     ensures { λ r. ⌜ Settles (putChecks code (p .state) (now (x .entry))) accepted p (placeWith State.Draft (tariffOf (now (x .entry)))) r ⌝ }
 {
-    let shut = refusal::first(book::open_check(p), tariff::check(x));
-    let checked = refusal::first(book::code_check(code), shut);
+    let inside = book::code_check(code);
+    let shut = book::open_check(p);
+    let record = tariff::check(x);
+    let checked = refusal::first(inside, refusal::first(shut, record));
     let Check::Pass = checked else {
         return book::settled_by(checked, p, p);
     };

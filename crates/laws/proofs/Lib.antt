@@ -7,3 +7,4 @@ pub mod Bounds
 pub mod Sums
 pub mod Differences
 pub mod Greatest
+pub mod Pieces

@@ -1,39 +1,42 @@
--- `cap::judge` meets its contract. The best corner is the worst month, so the two sides there decide.
+-- `cap::compared` meets its contract: the best corner is the worst month, with both sides for t of it.
 -- Assumes nothing.
-use mathlib.Core.Path.{_≡_, _∙_}
+use mathlib.Core.Path.{_≡_, _∙_, ap₂}
 use Prim.Native.Nat.{_+_, _*_, _-_, _≤_}
-use native.Mathlib.Nat.{mul-le-mul}
 use native.Mathlib.Omega.{arith}
-use Rattle.tariff.proofs.Validity.{valid-standing}
-use Rattle.charge.proofs.Months.{month-most}
-use Rattle.cap.specs.Cap.{worstMonth}
+use lib.ListN.{length}
+use Rattle.tariff.specs.Tariff.{wholeShare}
+use Rattle.cap.specs.Cap.{capped, worstMonth, worstMonths}
 use Rattle.cap.specs.Deciding.{monthCharged, monthCapped}
-use Rattle.cap.specs.Judged.{Raised, room}
-use Rattle.cap.proofs.Sizes.{scale-most}
-use Rattle.cap.proofs.Verdicts.{corner-is-worst, nought-charged, over-there, within-there}
+use Rattle.cap.specs.Corners.{monthChargedMost, room, Raised}
+use Rattle.cap.proofs.Runs.{price-nought, price-most, scan-is-worst}
+use Rattle.cap.proofs.Comparing.{both-raised}
 use borrow.Author.Needs.{needs}
-use Rattle.cap.proofs.judge.Statement.{statement}
-use Rattle.cap.proofs.judge.Tie as tie
+use Rattle.cap.proofs.compared.Statement.{statement}
+use Rattle.cap.proofs.compared.Tie as tie
+
+rate-count : (c : tie.Start) → length (c .args .x .rates) ≡ 4
+rate-count c = search needs
+
+step-count : (c : tie.Start) → length (c .args .x .steps) ≡ 4
+step-count c = search needs
 
 -- the corner that was found is the worst month, with its share
 found : (c : tie.After-worst-corner) → let a = c .before .before .args in
-    Raised (monthCharged (a .e) (a .x)) (1200 * (a .e .upper - a .e .lower)) (c .worst-corner .result) × (c .worst-corner .result .month ≡ worstMonth (a .e) (a .x))
+    Raised (monthCharged (a .e) (a .x)) (12 * wholeShare * (a .e .upper - a .e .lower)) (c .worst-corner .result) × (c .worst-corner .result .month ≡ worstMonth (a .e) (a .x))
 found c =
     let st = c .before .before in
     let e = st .args .e in
     let x = st .args .x in
-    let w = c .worst-corner .ensures (monthCharged e x) (nought-charged e x (st .pre .0)) (st .pre .1 .charges) in
-    (w .0, w .1 ∙ corner-is-worst e x (st .args .k) (st .pre .0) (st .pre .1))
+    let w = c .worst-corner .ensures (monthCharged e x) (price-nought (e .peak) x (st .pre .2 .peak-most) (st .pre .0) (rate-count st) (step-count st) (e .m)) (st .pre .1 .charges) in
+    (w .0, w .1 ∙ scan-is-worst e x (st .pre .1 .runs))
 
-share-is : (c : tie.After-worst-corner) → let a = c .before .before .args in
-    c .worst-corner .result .raised + monthCapped (a .e) (worstMonth (a .e) (a .x)) ≡ monthCharged (a .e) (a .x) (worstMonth (a .e) (a .x)) + room
-share-is c = let f = found c in rw (f .1) at (f .0 .is)
-
-share-most : (c : tie.After-worst-corner) → c .worst-corner .result .raised ≤ 76800000000000000
+share-most : (c : tie.After-worst-corner) → c .worst-corner .result .raised ≤ monthChargedMost + room
 share-most c =
     let st = c .before .before in
+    let e = st .args .e in
+    let x = st .args .x in
     let f = found c in
-    omega (arith, f .0 .is, mul-le-mul (scale-most (st .args .e) (st .pre .2)) (month-most (st .args .x) (c .worst-corner .result .month) (st .pre .0) (f .0 .within)))
+    omega (arith, f .0 .is, price-most (e .peak) x (st .pre .2 .peak-most) (st .pre .0) (rate-count st) (step-count st) (e .m) (st .pre .2 .m-most) (c .worst-corner .result .month) (f .0 .within))
 
 sub-slope : tie.Need-sub-slope
 sub-slope c = search needs
@@ -45,32 +48,25 @@ worst-corner-requires : tie.Need-worst-corner-requires
 worst-corner-requires c κs = search needs
 
 charged-by-requires : tie.Need-charged-by-requires
-charged-by-requires c κs = let st = c .before .before in (st .pre .2, valid-standing (st .args .x) (st .pre .0), share-most c)
+charged-by-requires c κs = let st = c .before .before in (st .pre .2, share-most c)
 
 capped-by-requires : tie.Need-capped-by-requires
 capped-by-requires c κs = search needs
 
-cast-t11 : tie.Need-cast-t11
-cast-t11 c = omega (arith, found (c .before .before .before .before) .0 .within)
-
-sub-t12 : tie.Need-sub-t12
-sub-t12 c = search needs
-
 returns : tie.Need-returns
 returns c =
-    let w = c .before .before .before .before in
+    let w = c .before .before in
     let a = w .before .before .args in
-    let h = over-there (a .e) (a .x) _ _ _ (share-is w) (c .before .before .before .charged-by .ensures) (c .before .before .capped-by .ensures) (c .before .if1 .taken) in
-    (h .0, found w .1, h .2)
+    let f = found w in
+    let share = rw (f .1) at (f .0 .is) in
+    record {
+      month-is = f .1;
+      within = f .0 .within;
+      raised = rw (c .before .charged-by .ensures, c .capped-by .ensures) (both-raised (a .e) (a .x) (w .worst-corner .result .raised) share);
+    }
 
-returns-2 : tie.Need-returns-2
-returns-2 c =
-    let w = c .before .before .before in
-    let a = w .before .before .args in
-    within-there (a .e) (a .x) _ _ _ (share-is w) (c .before .before .charged-by .ensures) (c .before .capped-by .ensures) (c .if1 .left)
-
-pub judge-spec : {M : Type 1} → statement M
-judge-spec =
+pub compared-spec : {M : Type 1} → statement M
+compared-spec =
     tie.close
     (tie.spec
     sub-slope
@@ -78,7 +74,4 @@ judge-spec =
     worst-corner-requires
     charged-by-requires
     capped-by-requires
-    cast-t11
-    sub-t12
-    returns
-    returns-2)
+    returns)

@@ -11,16 +11,17 @@ use Rattle.laws.proofs.Every.{and-left, and-right}
 use Rattle.refusal.specs.declared.Check.{Check}
 use Rattle.refusal.specs.declared.Check.the-variants.{Pass, Refuse}
 use Rattle.refusal.specs.Checks.{unless}
-use Rattle.benchmark.specs.Benchmark.{place}
-use Rattle.cap.specs.declared.Terms.{Terms}
+use Rattle.benchmark.specs.Benchmark.{figureIndex}
+use Rattle.cap.specs.declared.CellNumbers.{CellNumbers}
 use Rattle.cap.specs.Cap.{maximum}
+use Rattle.verdict.specs.Cells.{cell, cellNumbers}
 use Rattle.book.specs.declared.Book.{Book}
 use Rattle.book.specs.Book.{Reachable}
 use Rattle.queries.specs.declared.Told.{Told}
 use Rattle.queries.specs.Queries.{Telling, refused, benchmarkCharge, maximumCharge, tellingOf, inRanges, benchmarkOf, maximumOf}
-use Rattle.queries.specs.Reading.{refusalTold, termsIn}
-use Rattle.book.proofs.InForce.{check-refused}
-use Rattle.queries.proofs.InForce.{charge-is, terms-told}
+use Rattle.queries.specs.Reading.{refusalTold}
+use Rattle.book.proofs.InForce.{check-refused, figures-are}
+use Rattle.queries.proofs.InForce.{charge-is}
 
 -- a check that refuses, handed on
 pub hands-on : (t : Bool) (k n : ℕ) (check : Check) (r : Told) (told : Telling) → check ≡ unless t k Pass → check ≡ Refuse n
@@ -47,9 +48,6 @@ within r a p last e =
       fourth = and-right (inRanges r a p) last e;
     }
 
-pub place-below : (r a p l : ℕ) → (inRanges r a p && ltb l 2) ≡ true → place r a p l < 112
-place-below r a p l e = let w = within r a p (ltb l 2) e in omega (arith, w .region, w .arrangement, w .method, ltb-true l 2 (w .fourth))
-
 pub total-most : (r a p n : ℕ) → (inRanges r a p && leb n 120000) ≡ true → n ≤ 120000
 total-most r a p n e = leb-true n 120000 (within r a p (leb n 120000) e .fourth)
 
@@ -64,7 +62,7 @@ module _ (b : Book) (r a p n : ℕ) where
   benchmark-no-sheet e f = rw (e, f)
 
   pub benchmark-told : Reachable b → (inRanges r a p && ltb n 2) ≡ true → b .loaded ≡ true
-      → benchmarkCharge (getD (b .benchmarks .charges) (place r a p n) 0) ≡ benchmarkOf b r a p n
+      → benchmarkCharge (getD (b .benchmarks .charges) (figureIndex r a p n) 0) ≡ benchmarkOf b r a p n
   unfolding benchmarkOf
   benchmark-told h e f =
       let w = within r a p (ltb n 2) e in
@@ -80,11 +78,10 @@ module _ (b : Book) (r a p n : ℕ) where
   maximum-no-sheet e f = rw (e, f)
 
   pub maximum-told : Reachable b → (inRanges r a p && leb n 120000) ≡ true → b .loaded ≡ true
-      → (e : Terms) → e ≡ termsIn (b .benchmarks) r a p → (most : ℕ) → most ≡ maximum e n
+      → (e : CellNumbers) → e ≡ cellNumbers (b .benchmarks) a 0 (cell r p) → (most : ℕ) → most ≡ maximum e n
       → maximumCharge (record { number = most; denominator = 12 * e .m }) ≡ maximumOf b r a p n
   unfolding maximumOf
   maximum-told h t f e its most is =
-      let w = within r a p (leb n 120000) t in
       rw (t, f, is)
-      (ap (λ (d : Terms). maximumCharge (record { number = maximum d n; denominator = 12 * d .m }))
-      (its ∙ terms-told b h f r a p (w .region) (w .arrangement) (w .method)))
+      (ap (λ (d : CellNumbers). maximumCharge (record { number = maximum d n; denominator = 12 * d .m }))
+      (its ∙ ap (λ g. cellNumbers g a 0 (cell r p)) (figures-are b h f)))

@@ -11,13 +11,12 @@ use lib.ListN.{getD}
 use borrow.Author.Tests.{ltb-true}
 use Rattle.laws.proofs.Every.{and-left, and-right}
 use Rattle.refusal.specs.declared.Check.the-variants.{Pass, Refuse}
-use Rattle.benchmark.specs.declared.Benchmarks.{Benchmarks}
 use Rattle.tariff.specs.declared.Tariff.{Tariff}
 use Rattle.tariff.specs.Tariff.{tariffOf, validTariff}
 use Rattle.charge.specs.Charge.{arrangement}
-use Rattle.cap.specs.declared.Terms.{Terms}
+use Rattle.cap.specs.declared.CellNumbers.{CellNumbers}
 use Rattle.cap.specs.Cap.{charged, capped}
-use Rattle.verdict.specs.Cells.{offered, terms, cell}
+use Rattle.verdict.specs.Cells.{offered, cellNumbers, numbersOf, cell}
 use Rattle.book.specs.declared.State.{State}
 use Rattle.book.specs.declared.State.the-variants.{Empty, Draft, Open}
 use Rattle.book.specs.declared.Place.{Place}
@@ -30,7 +29,6 @@ use Rattle.book.proofs.Places.{never}
 use Rattle.book.proofs.Reached.{reached, tariff-held}
 use Rattle.book.proofs.Steps.{code-refused, code-passed, empty-refused, empty-passed}
 use Rattle.queries.specs.Queries.{refused, quotation, cellAllowed, monthsAllowed, quotable, quoted, quoteOf}
-use Rattle.queries.specs.Reading.{termsIn}
 use Rattle.book.proofs.InForce.{figures-are}
 use Rattle.queries.proofs.InForce.{months-are}
 
@@ -51,11 +49,6 @@ filled-state : (s : State) → emptyCheck s ≡ Pass → (s ≡ Draft) ⊎ (s �
 filled-state Empty e = never (cc)
 filled-state Draft e = inl refl
 filled-state Open e = inr refl
-
--- the numbers of a tariff's cell
-terms-of-cell : (f : Benchmarks) (x : Tariff) (r p : ℕ) → termsIn f r (arrangement x) p ≡ terms f x (cell r p)
-unfolding termsIn terms
-terms-of-cell f x r p = refl
 
 -- the tariff of a code that 9 lets pass is the one that the code takes out of its place, and it is valid
 module _ (b : Book) (from : Reachable b) (k : ℕ) (q : Place) (is : placeOf (b .places) k ≡ q) (filled : emptyCheck (q .state) ≡ Pass)
@@ -110,12 +103,11 @@ module _ (b : Book) (k r p : ℕ) (months : List ℕ) (q : Place) (inside : code
 
     -- the two figures, from the terms and the sides that the code works out
     pub quote-told : (cellAllowed x r p && monthsAllowed (b .benchmarks .months) months) ≡ true
-        → (a : ℕ) → a ≡ arrangement x → (e : Terms) → e ≡ termsIn (b .benchmarks) r a p
+        → (a : ℕ) → a ≡ arrangement x → (e : CellNumbers) → e ≡ cellNumbers (b .benchmarks) a (x .standing) (cell r p)
         → (n m : ℕ) → n ≡ charged e x months → m ≡ capped e months
         → quotation (record { charge = n; maximum = m }) ≡ quoteOf b k r p months
     quote-told t a h e g n m u v =
-        let same : e ≡ terms (figuresOf (sheetIn b)) x (cell r p) =
-        g ∙ ap (λ (i : ℕ). termsIn (b .benchmarks) r i p) h ∙ terms-of-cell (b .benchmarks) x r p
-        ∙ ap (λ f. terms f x (cell r p)) (figures-are b from loaded) in
+        let same : e ≡ numbersOf (figuresOf (sheetIn b)) x (cell r p) =
+        g ∙ ap (λ (i : ℕ). cellNumbers (b .benchmarks) i (x .standing) (cell r p)) h ∙ ap (λ f. numbersOf f x (cell r p)) (figures-are b from loaded) in
         rw (u, v)
-        (ap (λ (d : Terms). quotation (record { charge = charged d x months; maximum = capped d months })) same ∙ sym (by-test true t))
+        (ap (λ (d : CellNumbers). quotation (record { charge = charged d x months; maximum = capped d months })) same ∙ sym (by-test true t))

@@ -7,14 +7,12 @@ use Prim.Native.Nat.{ℕ, _+_, _*_}
 use lib.Dec.{leb, ltb, eqb}
 use lib.ListN.{length, getD}
 use Rattle.laws.specs.Notions.{every}
-use Rattle.calendar.specs.Calendar.{periodDays}
-use Rattle.sheet.specs.Sheet.{field}
 use Rattle.benchmark.specs.Benchmark.{benchmark}
 use Rattle.tariff.specs.declared.Tariff.{Tariff}
 use Rattle.tariff.specs.Tariff.{tariffOf}
-use Rattle.cap.specs.declared.Terms.{Terms}
-use Rattle.cap.specs.Cap.{maximum, charged, capped, monthMost}
-use Rattle.verdict.specs.Cells.{offered, terms, cell}
+use Rattle.charge.specs.Charge.{monthMost}
+use Rattle.cap.specs.Cap.{maximum, charged, capped}
+use Rattle.verdict.specs.Cells.{offered, cellNumbers, numbersOf, cell}
 use Rattle.book.specs.declared.Book.{Book}
 use Rattle.book.specs.Calls.{Sheet, Record}
 use Rattle.book.specs.Checks.{figuresOf, outside}
@@ -60,22 +58,13 @@ benchmarkTold true (some s) r a p l = benchmarkCharge (benchmark (s .fields) r a
 unfoldable pub benchmarkOf : Book → ℕ → ℕ → ℕ → ℕ → Telling
 benchmarkOf b r a p l = benchmarkTold (inRanges r a p && ltb l 2) (bookReadings b .sheet) r a p l
 
--- MAXIMUM (region, arrangement, method, total 0 to 120,000): "the same two; gives the whole number above and 12 × m"
-abbrev pub termsOf : Sheet → ℕ → ℕ → ℕ → Terms
-termsOf s r a p =
-    record {
-      lower = benchmark (s .fields) r a p 0;
-      upper = benchmark (s .fields) r a p 1;
-      m = field (s .fields) (93 + a);
-      months = s .period .months;
-      days = periodDays (s .period);
-    }
-
+-- MAXIMUM (region, arrangement, method, total 0 to 120,000): "the same two; gives the whole number above and 12 × m"; no standing
+-- charge enters the maximum
 abbrev pub maximumTold : (allowed : Bool) (sheet : Option Sheet) → ℕ → ℕ → ℕ → ℕ → Telling
 maximumTold false sheet r a p total = refused 13
 maximumTold true none r a p total = refused 10
 maximumTold true (some s) r a p total =
-    maximumCharge (record { number = maximum (termsOf s r a p) total; denominator = 12 * field (s .fields) (93 + a) })
+    let e = cellNumbers (figuresOf s) a 0 (cell r p) in maximumCharge (record { number = maximum e total; denominator = 12 * e .m })
 
 unfoldable pub maximumOf : Book → ℕ → ℕ → ℕ → ℕ → Telling
 maximumOf b r a p total = maximumTold (inRanges r a p && leb total 120000) (bookReadings b .sheet) r a p total
@@ -94,7 +83,7 @@ quotable s x region method months = cellAllowed x region method && monthsAllowed
 abbrev pub quoted : (allowed : Bool) → Sheet → Tariff → ℕ → ℕ → List ℕ → Telling
 quoted false s x region method months = refused 13
 quoted true s x region method months =
-    let e = terms (figuresOf s) x (cell region method) in quotation (record { charge = charged e x months; maximum = capped e months })
+    let e = numbersOf (figuresOf s) x (cell region method) in quotation (record { charge = charged e x months; maximum = capped e months })
 
 -- QUOTE (code, region, method, months). 6, 9, 10, 13. "Drafts can be quoted."
 abbrev pub quoteTold : (outside : Bool) (tariff : Option Record) (sheet : Option Sheet) → ℕ → ℕ → List ℕ → Telling

@@ -3,17 +3,19 @@
 // require document 01's own sentence on the book, `Reachable`, since the figures are read from the book and are those of its sheet.
 ghost use mathlib.Core.Path.{_≡_};
 ghost use mathlib.Core.Bool.{_&&_};
-ghost use Prim.Native.Nat.{_<_};
+ghost use Prim.Native.Nat.{_<_, _≤_};
 ghost use Rattle.refusal.specs.Checks.{unless};
 ghost use Rattle.refusal.specs.declared.Check.the-variants.{Pass};
 ghost use Rattle.benchmark.specs.Lawful.{Lawful};
-ghost use Rattle.cap.specs.Judged.{Fits};
+ghost use Rattle.tariff.specs.Tariff.{standingMost};
+ghost use Rattle.cap.specs.Corners.{Fits};
+ghost use Rattle.verdict.specs.Cells.{cell, cellNumbers};
 ghost use Rattle.book.specs.Book.{Reachable};
 ghost use Rattle.queries.specs.Queries.{tellingOf, inRanges, cellAllowed, monthsAllowed, benchmarkOf, maximumOf, quoteOf};
-ghost use Rattle.queries.specs.Reading.{refusalTold, termsIn};
+ghost use Rattle.queries.specs.Reading.{refusalTold};
 use benchmark::Benchmarks;
 use book::Book;
-use cap::Terms;
+use cap::CellNumbers;
 use charge::Kwh;
 use refusal::Check;
 use tariff::Tariff;
@@ -60,20 +62,28 @@ fn ranges_check(region: u32, arrangement: u32, method: u32, last: bool) -> Check
 }
 
 // The numbers of a cell, from the figures of the sheet in force.
-fn terms_in(figures: Benchmarks, region: usize, arrangement: usize, method: usize) -> Terms
-    requires { ⌜ Lawful figures × (region < 14) × (arrangement < 2) × (method < 2) ⌝ }
-    ensures { λ r. ⌜ (r ≡ termsIn figures region arrangement method) × Fits r ⌝ }
+fn numbers_in(
+    f: Benchmarks,
+    arrangement: usize,
+    standing: u32,
+    region: u32,
+    method: u32,
+) -> CellNumbers
+    requires { ⌜ Lawful f × (arrangement < 2) × (standing ≤ standingMost) × (region < 14) × (method < 2) ⌝ }
+    ensures { λ r. ⌜ (r ≡ cellNumbers f arrangement standing (cell region method)) × Fits r ⌝ }
 {
-    let charges = figures.charges;
-    let levels = figures.levels;
-    let at = 8 * region + 4 * arrangement + 2 * method;
-    Terms {
-        lower: wide(charges[at]),
-        upper: wide(charges[at + 1]),
-        m: wide(levels[arrangement]),
-        months: wide(figures.months),
-        days: figures.days,
-    }
+    let charges = f.charges;
+    let levels = f.levels;
+    verdict::cell_numbers(
+        &charges,
+        levels[arrangement],
+        f.months,
+        f.days,
+        arrangement,
+        standing,
+        region,
+        method,
+    )
 }
 
 // BENCHMARK (region, arrangement, method, level). 13, 10.
@@ -91,10 +101,12 @@ pub fn benchmark(b: Book, region: u32, arrangement: u32, method: u32, level: u32
     };
     let figures = b.benchmarks;
     let charges = figures.charges;
-    let at = 8 * (region as usize)
-        + 4 * (arrangement as usize)
-        + 2 * (method as usize)
-        + (level as usize);
+    let at = benchmark::figure_index(
+        region as usize,
+        arrangement as usize,
+        method as usize,
+        level as usize,
+    );
     Told::Benchmark(wide(charges[at]))
 }
 
@@ -112,12 +124,7 @@ pub fn maximum(b: Book, region: u32, arrangement: u32, method: u32, total: u32) 
         return refused(loaded);
     };
     let figures = b.benchmarks;
-    let e = terms_in(
-        figures,
-        region as usize,
-        arrangement as usize,
-        method as usize,
-    );
+    let e = numbers_in(figures, arrangement as usize, 0, region, method);
     let most = cap::maximum_of(e, Kwh(wide(total)));
     let number = most.0;
     let denominator = 12 * e.m;
@@ -196,7 +203,7 @@ pub fn quote(b: Book, code: u32, region: u32, method: u32, months: &[u32]) -> To
         return refused(allowed);
     };
     let arrangement = verdict::arrangement_of(x);
-    let e = terms_in(figures, region as usize, arrangement, method as usize);
+    let e = numbers_in(figures, arrangement, x.standing, region, method);
     let sides = cap::sides_of(e, x, months);
     Told::Quote {
         charge: sides.charged,

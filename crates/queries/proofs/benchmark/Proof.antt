@@ -1,12 +1,14 @@
--- `queries::benchmark` meets its contract: each check that refuses is the first that applies, and the figure read is that of its place.
+-- `queries::benchmark` meets its contract: each check that refuses is the first that applies, and the figure read is that of its index.
 -- Assumes nothing.
 use mathlib.Core.Path.{_≡_, sym, _∙_, ap}
 use mathlib.Core.Bool.{true, _&&_}
-use native.Mathlib.Omega.{arith}
+use Prim.Native.Nat.{ℕ}
 use lib.Dec.{ltb}
+use lib.ListN.{getD}
+use borrow.Author.Tests.{ltb-true}
 use Rattle.queries.specs.Queries.{benchmarkCharge, inRanges}
 use Rattle.book.proofs.InForce.{check-passed}
-use Rattle.queries.proofs.Asked.{hands-on, place-below, benchmark-outside, benchmark-no-sheet, benchmark-told}
+use Rattle.queries.proofs.Asked.{hands-on, within, benchmark-outside, benchmark-no-sheet, benchmark-told}
 use borrow.Author.Needs.{needs}
 use Rattle.queries.proofs.benchmark.Statement.{statement}
 use Rattle.queries.proofs.benchmark.Tie as tie
@@ -48,41 +50,28 @@ returns-2 c =
     let s = c .before .before .before in
     hands-on _ _ _ _ _ _ (s .sheet-check .ensures) (c .before .enum-told4 .given .1) (c .refused2 .ensures) (benchmark-no-sheet _ _ _ _ _ (ranged (s .before)))
 
-mul-at : tie.Need-mul-at
-mul-at c = search needs
-
-mul-at-2 : tie.Need-mul-at-2
-mul-at-2 c = search needs
-
-add-at : tie.Need-add-at
-add-at c = search needs
-
-mul-at-3 : tie.Need-mul-at-3
-mul-at-3 c = search needs
-
-add-at-2 : tie.Need-add-at-2
-add-at-2 c = search needs
-
-add-at-3 : tie.Need-add-at-3
-add-at-3 c = search needs
+figure-index-requires : tie.Need-figure-index-requires
+figure-index-requires c κs =
+    let g = c .before .before .before .before .before in
+    let w = within _ _ _ _ (ranged g) in
+    (w .region, w .arrangement, w .method, ltb-true _ 2 (w .fourth))
 
 mul-wide : tie.Need-mul-wide
 mul-wide c = search needs
 
 array-read-wide : tie.Need-array-read-wide
-array-read-wide c =
-    let g = c .before .before .before .before .before in
-    let x = g .before .before .before .args in
-    omega (arith, place-below (x .region) (x .arrangement) (x .method) (x .level) (ranged g))
+array-read-wide c = search needs
 
 wide-requires : tie.Need-wide-requires
 wide-requires c κs = search needs
 
 returns-3 : tie.Need-returns-3
 returns-3 c =
-    let d = c .before .before .before in
+    let i = c .before in
+    let d = i .before .before .before in
     let s = d .before .before in
-    ap benchmarkCharge (c .wide .ensures)
+    let b = s .before .before .before .before .args .b in
+    ap benchmarkCharge (c .wide .ensures ∙ ap (λ (k : ℕ). getD (b .benchmarks .charges) k 0) (i .figure-index .ensures .0))
     ∙ benchmark-told _ _ _ _ _ (s .before .before .before .before .pre) (ranged (s .before)) (check-passed _ _ (sym (s .sheet-check .ensures) ∙ d .enum-told3 .given .1))
 
 pub benchmark-spec : {M : Type 1} → statement M
@@ -99,12 +88,7 @@ benchmark-spec =
     enum-told-4
     refused-requires-2
     returns-2
-    mul-at
-    mul-at-2
-    add-at
-    mul-at-3
-    add-at-2
-    add-at-3
+    figure-index-requires
     mul-wide
     array-read-wide
     wide-requires

@@ -1,7 +1,8 @@
--- `queries::maximum` meets its contract: each check that refuses is the first that applies, and the terms read are those of the cell.
+-- `queries::maximum` meets its contract: each check that refuses is the first that applies, and the numbers read are those of the cell.
 -- Assumes nothing.
 use mathlib.Core.Path.{_≡_, sym, _∙_, ap}
 use mathlib.Core.Bool.{true, _&&_}
+use native.Mathlib.Omega.{arith}
 use lib.Dec.{leb}
 use Rattle.cap.specs.Cap.{maximum}
 use Rattle.queries.specs.Queries.{inRanges}
@@ -52,12 +53,12 @@ returns-2 c =
     let s = c .before .before .before in
     hands-on _ _ _ _ _ _ (s .sheet-check .ensures) (c .before .enum-told4 .given .1) (c .refused2 .ensures) (maximum-no-sheet _ _ _ _ _ (ranged (s .before)))
 
-terms-in-requires : tie.Need-terms-in-requires
-terms-in-requires c κs =
+numbers-in-requires : tie.Need-numbers-in-requires
+numbers-in-requires c κs =
     let d = c .before in
     let g = d .before .before .before in
     let w = within _ _ _ _ (ranged g) in
-    (figures-lawful _ (g .before .before .before .pre) (in-force d), w .region, w .arrangement, w .method)
+    (figures-lawful _ (g .before .before .before .pre) (in-force d), w .arrangement, omega arith, w .region, w .method)
 
 wide-requires : tie.Need-wide-requires
 wide-requires c κs = search needs
@@ -66,7 +67,7 @@ maximum-of-requires : tie.Need-maximum-of-requires
 maximum-of-requires c κs =
     let g = c .before .before .before .before .before .before in
     let x = g .before .before .before .args in
-    (c .before .terms-in .ensures .1, rw (c .wide .ensures) (total-most (x .region) (x .arrangement) (x .method) (x .total) (ranged g)))
+    (c .before .numbers-in .ensures .1, rw (c .wide .ensures) (total-most (x .region) (x .arrangement) (x .method) (x .total) (ranged g)))
 
 mul-denominator : tie.Need-mul-denominator
 mul-denominator c = search needs
@@ -77,8 +78,8 @@ returns-3 c =
     let e = m .before .before in
     let d = e .before .before in
     let g = d .before .before .before in
-    let most = m .maximum-of .ensures .0 ∙ ap (maximum (e .terms-in .result)) (m .before .wide .ensures) in
-    maximum-told _ _ _ _ _ (g .before .before .before .pre) (ranged g) (in-force d) _ (e .terms-in .ensures .0) _ most
+    let most = m .maximum-of .ensures .0 ∙ ap (maximum (e .numbers-in .result)) (m .before .wide .ensures) in
+    maximum-told _ _ _ _ _ (g .before .before .before .pre) (ranged g) (in-force d) _ (e .numbers-in .ensures .0) _ most
 
 pub maximum-spec : {M : Type 1} → statement M
 maximum-spec =
@@ -94,7 +95,7 @@ maximum-spec =
     enum-told-4
     refused-requires-2
     returns-2
-    terms-in-requires
+    numbers-in-requires
     wide-requires
     maximum-of-requires
     mul-denominator

@@ -1,4 +1,4 @@
--- `queries::quote` meets its contract: each check that refuses is the first that applies, and the terms read are those of the tariff in the cell.
+-- `queries::quote` meets its contract: each check that refuses is the first that applies, and the numbers read are those of the tariff in the cell.
 -- Assumes nothing.
 use mathlib.Core.Path.{_≡_, sym, _∙_, ap}
 use mathlib.Core.Bool.{true, _&&_}
@@ -9,6 +9,7 @@ use denote.Ref.{now}
 use Rattle.refusal.specs.declared.Check.the-variants.{Pass}
 use Rattle.laws.proofs.Every.{and-left, and-right}
 use Rattle.tariff.specs.Tariff.{validTariff}
+use Rattle.tariff.proofs.Validity.{valid-standing}
 use Rattle.book.specs.Settling.{codeCheck, emptyCheck}
 use Rattle.book.specs.Book.{beyond, placeOf}
 use Rattle.book.proofs.Steps.{code-passed, index-below}
@@ -167,17 +168,17 @@ returns-4 c =
 arrangement-of-requires : tie.Need-arrangement-of-requires
 arrangement-of-requires c κs = search needs
 
-terms-in-requires : tie.Need-terms-in-requires
-terms-in-requires c κs =
+numbers-in-requires : tie.Need-numbers-in-requires
+numbers-in-requires c κs =
     let d = c .before in
     let w = cell-within _ _ _ (and-left _ _ (allowed d)) in
-    (figures-lawful _ (start-7 d .pre) (loaded (past-10 d)), w .0, omega (arith, c .arrangement-of .ensures .1), w .1)
+    (figures-lawful _ (start-7 d .pre) (loaded (past-10 d)), omega (arith, c .arrangement-of .ensures .1), valid-standing _ (valid d), w .0, w .1)
 
 sides-of-requires : tie.Need-sides-of-requires
 sides-of-requires c κs =
     let d = c .before .before in
     let listed = and-right (cellAllowed (d .before .before .before .tariff-in .result) _ _) (monthsAllowed _ _) (allowed d) in
-    (c .terms-in .ensures .1, valid d, months-for _ _ _ _ _ (c .terms-in .ensures .0) _ listed)
+    (c .numbers-in .ensures .1, valid d, months-for _ _ _ _ _ (c .numbers-in .ensures .0) _ listed)
 
 returns-5 : tie.Need-returns-5
 returns-5 c =
@@ -188,7 +189,7 @@ returns-5 c =
     let f = past-9 l in
     let w = past-6 f in
     quote-told _ _ _ _ _ _ (inside w) (at-code w) (filled f) (start w .pre) _ (x .tariff-in .ensures) (loaded l) (allowed d)
-    _ (e .before .arrangement-of .ensures .0) _ (e .terms-in .ensures .0) _ _ (c .sides-of .ensures .0) (c .sides-of .ensures .1)
+    _ (e .before .arrangement-of .ensures .0) _ (e .numbers-in .ensures .0) _ _ (c .sides-of .ensures .0) (c .sides-of .ensures .1)
 
 pub quote-spec : {M : Type 1} → statement M
 quote-spec =
@@ -220,6 +221,6 @@ quote-spec =
     refused-requires-4
     returns-4
     arrangement-of-requires
-    terms-in-requires
+    numbers-in-requires
     sides-of-requires
     returns-5)

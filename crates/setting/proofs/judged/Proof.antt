@@ -1,7 +1,7 @@
 -- `setting::judged` meets its contract.
 -- Assumes nothing.
 use mathlib.Core.Path.{_∙_, subst}
-use Rattle.verdict.specs.Found.{Finds}
+use Rattle.verdict.specs.Rulings.{Finds}
 use Rattle.setting.proofs.Under.{empty-kept, draft-kept, is-valid, open-kept, open-fallen}
 use borrow.Author.Needs.{needs}
 use Rattle.setting.proofs.judged.Statement.{statement}
@@ -50,7 +50,7 @@ returns-4 c =
     let st = t .before .before .before in
     c .in-state .ensures
     ∙ open-fallen (st .args .figures) (st .args .p) (st .pre .1) (t .before .enum-told3 .given .1) (t .tariff-in .result) (t .tariff-in .ensures) _
-    (subst (Finds (st .args .figures) (t .tariff-in .result)) (c .before .enum-told5 .given .1) (c .before .before .before .first-over .ensures) .0)
+    (subst (Finds (st .args .figures) (t .tariff-in .result)) (c .before .enum-told5 .given .1) (c .before .before .before .first-over .ensures))
 
 pub judged-spec : {M : Type 1} → statement M
 judged-spec =

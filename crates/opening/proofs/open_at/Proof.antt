@@ -3,16 +3,15 @@
 -- Assumes nothing.
 use mathlib.Core.Path.{_≡_, refl, sym, _∙_, ap}
 use mathlib.Core.Bool.{true}
-use native.Mathlib.Omega.{arith}
 use Rattle.refusal.specs.declared.Check.the-variants.{Pass}
 use Rattle.book.specs.declared.State.the-variants.{Open}
 use Rattle.book.specs.Settling.{codeCheck, emptyCheck, openCheck}
 use Rattle.book.specs.Book.{withState, withPlace}
 use Rattle.refusal.specs.Checks.{unless}
-use Prim.Native.Nat.{suc, _≤_}
-use Rattle.book.proofs.Steps.{at-code, placed, same-place, opens, open-outside, open-empty, open-open}
+use Prim.Native.Nat.{suc}
+use Rattle.book.proofs.Steps.{at-code, placed, same-place, opens, exceeds, open-outside, open-empty, open-open}
 use Rattle.book.proofs.InForce.{check-passed}
-use Rattle.opening.proofs.Checked.{no-sheet, answers-outcome, tariff-valid, opens-refused, over-cap}
+use Rattle.opening.proofs.Checked.{no-sheet, answers-outcome, tariff-valid, opens-refused}
 use borrow.Author.Needs.{needs}
 use Rattle.opening.proofs.open_at.Statement.{statement}
 use Rattle.opening.proofs.open_at.Tie as tie
@@ -131,15 +130,6 @@ enum-known-outcome c = search needs
 enum-known-outcome-2 : tie.Need-enum-known-outcome-2
 enum-known-outcome-2 c = search needs
 
-months-most : (c : tie.After-verdict-of) → c .before .before .before .before .before .before .before .before .before .before .before .before .before .before .before .args .figures .months ≤ 12
-months-most c = c .before .before .before .before .before .before .before .before .before .before .before .before .before .before .before .pre .0 (loaded (c .before .before .before)) .months-most
-
-cast-equal-months : tie.Need-cast-equal-months
-cast-equal-months c = omega (arith, months-most (c .before .before .before))
-
-equal-months-requires : tie.Need-equal-months-requires
-equal-months-requires c κs = months-most (c .before .before .before)
-
 returns-5 : tie.Need-returns-5
 returns-5 c =
     let o = c .before in
@@ -151,7 +141,7 @@ returns-5 c =
     let w = within (u .before .before) in
     λ b at reachable l g index there.
     let is = at-code b _ at _ index there w in
-    let answered = answers-outcome b _ _ is (filled u) (shut v) reachable (l ∙ loaded q) _ g w _ _ _ (f .before .tariff-in .ensures) (f .verdict-of .ensures) (o .outcome .given .1) in
+    let answered = answers-outcome b _ _ is (filled u) (shut v) reachable (l ∙ loaded q) _ g w _ _ _ _ (f .before .tariff-in .ensures) (f .verdict-of .ensures .is-verdict) (o .outcome .given .1) in
     opens b _ _ _ answered (refl, refl, ap (withPlace b (suc at)) (i .in-state .ensures) ∙ placed b _ at _ index there w (withState Open))
 
 returns-6 : tie.Need-returns-6
@@ -164,8 +154,8 @@ returns-6 c =
     let w = within (u .before .before) in
     λ b at reachable l g index there.
     let is = at-code b _ at _ index there w in
-    let answered = answers-outcome b _ _ is (filled u) (shut v) reachable (l ∙ loaded q) _ g w _ _ _ (f .before .tariff-in .ensures) (f .verdict-of .ensures) (o .outcome2 .given .1) in
-    over-cap b _ _ _ _ _ _ _ answered (refl, c .equal-months .ensures, same-place b at _ there)
+    let answered = answers-outcome b _ _ is (filled u) (shut v) reachable (l ∙ loaded q) _ g w _ _ _ _ (f .before .tariff-in .ensures) (f .verdict-of .ensures .is-verdict) (o .outcome2 .given .1) in
+    exceeds b _ _ _ _ _ _ answered (refl, same-place b at _ there) (f .verdict-of .ensures .rest)
 
 pub open-at-spec : {M : Type 1} → statement M
 open-at-spec =
@@ -196,7 +186,5 @@ open-at-spec =
     verdict-of-requires
     enum-known-outcome
     enum-known-outcome-2
-    cast-equal-months
-    equal-months-requires
     returns-5
     returns-6)

@@ -253,11 +253,11 @@ fn equal_months(month: u32, t: usize) -> [u32; 12]
 }
 
 // The months of answer 11 and their excess, where a tariff exceeds in a cell.
-pub fn worst_case(x: Tariff, k: Corners, e: CellNumbers) -> WorstCase
-    requires { ⌜ (validTariff x ≡ true) × Cornered (e .peak) x (e .m) k × Fits e × Exceeds e x ⌝ }
+pub fn worst_case(x: Tariff, e: CellNumbers) -> WorstCase
+    requires { ⌜ (validTariff x ≡ true) × Fits e × Exceeds e x ⌝ }
     ensures { λ r. ⌜ Carries e x r ⌝ }
 {
-    let worst = compared(x, k, e);
+    let worst = compared(x, corners_of(x, e.peak, e.m), e);
     WorstCase {
         months: equal_months(worst.month as u32, e.months as usize),
         excess: worst.charged - worst.capped,

@@ -3,19 +3,12 @@
 // require document 01's own sentence on the book, `Reachable`, since the figures are read from the book and are those of its sheet.
 ghost use mathlib.Core.Path.{_≡_};
 ghost use mathlib.Core.Bool.{_&&_};
-ghost use Prim.Native.Nat.{_<_, _≤_};
 ghost use Rattle.refusal.specs.Checks.{unless};
 ghost use Rattle.refusal.specs.declared.Check.the-variants.{Pass};
-ghost use Rattle.benchmark.specs.Lawful.{Lawful};
-ghost use Rattle.tariff.specs.Tariff.{standingMost};
-ghost use Rattle.cap.specs.Corners.{Fits};
-ghost use Rattle.verdict.specs.Cells.{cell, cellNumbers};
 ghost use Rattle.book.specs.Book.{Reachable};
 ghost use Rattle.queries.specs.Queries.{tellingOf, inRanges, cellAllowed, monthsAllowed, benchmarkOf, maximumOf, quoteOf};
 ghost use Rattle.queries.specs.Reading.{refusalTold};
-use benchmark::Benchmarks;
 use book::Book;
-use cap::CellNumbers;
 use charge::Kwh;
 use refusal::Check;
 use tariff::Tariff;
@@ -61,31 +54,6 @@ fn ranges_check(region: u32, arrangement: u32, method: u32, last: bool) -> Check
     if last { Check::Pass } else { Check::Refuse(13) }
 }
 
-// The numbers of a cell, from the figures of the sheet in force.
-fn numbers_in(
-    f: Benchmarks,
-    arrangement: usize,
-    standing: u32,
-    region: u32,
-    method: u32,
-) -> CellNumbers
-    requires { ⌜ Lawful f × (arrangement < 2) × (standing ≤ standingMost) × (region < 14) × (method < 2) ⌝ }
-    ensures { λ r. ⌜ (r ≡ cellNumbers f arrangement standing (cell region method)) × Fits r ⌝ }
-{
-    let charges = f.charges;
-    let levels = f.levels;
-    verdict::cell_numbers(
-        &charges,
-        levels[arrangement],
-        f.months,
-        f.days,
-        arrangement,
-        standing,
-        region,
-        method,
-    )
-}
-
 // BENCHMARK (region, arrangement, method, level). 13, 10.
 pub fn benchmark(b: Book, region: u32, arrangement: u32, method: u32, level: u32) -> Told
     requires { ⌜ Reachable b ⌝ }
@@ -124,7 +92,7 @@ pub fn maximum(b: Book, region: u32, arrangement: u32, method: u32, total: u32) 
         return refused(loaded);
     };
     let figures = b.benchmarks;
-    let e = numbers_in(figures, arrangement as usize, 0, region, method);
+    let e = verdict::numbers_in(figures, arrangement as usize, 0, region, method);
     let most = cap::maximum_of(e, Kwh(wide(total)));
     let number = most.0;
     let denominator = 12 * e.m;
@@ -203,7 +171,7 @@ pub fn quote(b: Book, code: u32, region: u32, method: u32, months: &[u32]) -> To
         return refused(allowed);
     };
     let arrangement = verdict::arrangement_of(x);
-    let e = numbers_in(figures, arrangement, x.standing, region, method);
+    let e = verdict::numbers_in(figures, arrangement, x.standing, region, method);
     let sides = cap::sides_of(e, x, months);
     Told::Quote {
         charge: sides.charged,

@@ -80,9 +80,6 @@ pub by-kind : {P : Type 0} (x : Tariff) → validTariff x ≡ true → (x .kind 
 unfolding validKind
 by-kind x v f g h = by-test x (eqb (x .kind) 1) (eqb (x .kind) 2) (eqb (x .kind) 3) refl refl refl (valid-kind x v) f g h
 
-pub valid-kinds : (x : Tariff) → validTariff x ≡ true → (1 ≤ x .kind) × (x .kind ≤ 3)
-valid-kinds x v = by-kind x v (λ k. (omega arith, omega arith)) (λ k. (omega arith, omega arith)) (λ k. (omega arith, omega arith))
-
 -- kind 1: n from 1 to 4, and n - 1 steps from 1 to 9,999 that rise
 pub valid-single : (x : Tariff) → validTariff x ≡ true → x .kind ≡ 1
     → (1 ≤ x .n) × (x .n ≤ 4) × (within (x .steps) (x .n - 1) 1 stepMost ≡ true) × (rising (x .steps) (x .n - 1) ≡ true)

@@ -4,18 +4,17 @@
 // `Offered`, `ExceedsIn`, `cellNumbers` of specs/Cells.antt, and the theorems in proofs/Meaning.antt and proofs/Count.antt.
 ghost use mathlib.Core.Path.{_≡_};
 ghost use mathlib.Core.Bool.{true};
-ghost use Prim.Native.Nat.{_<_};
+ghost use Prim.Native.Nat.{_<_, _≤_};
 ghost use lib.ListN.{length, getD};
 ghost use Rattle.benchmark.specs.declared.Benchmarks.{Benchmarks};
 ghost use Rattle.benchmark.specs.Lawful.{Lawful};
-ghost use Rattle.tariff.specs.Tariff.{validTariff};
+ghost use Rattle.tariff.specs.Tariff.{standingMost, validTariff};
 ghost use Rattle.charge.specs.Charge.{arrangement};
-ghost use Rattle.cap.specs.Corners.{Carries};
-ghost use Rattle.verdict.specs.Cells.{cell, bit, cellNumbers, numbersOf, ExceedsIn, cellCount};
+ghost use Rattle.cap.specs.Corners.{Fits};
+ghost use Rattle.verdict.specs.Cells.{cell, bit, cellNumbers, cellCount};
 ghost use Rattle.verdict.specs.Rulings.{Finds, Rules};
 use benchmark::Benchmarks;
 use cap::CellNumbers;
-use cap::WorstCase;
 use tariff::Tariff;
 
 // The peak share of Economy 7.
@@ -68,7 +67,7 @@ pub fn cell_count(x: Tariff) -> u32
 }
 
 // The numbers of a cell in an arrangement, for a standing charge, from the 112 figures, m, t and the days.
-pub fn cell_numbers(
+fn cell_numbers(
     charges: &[u32],
     m: u32,
     months: u32,
@@ -91,6 +90,31 @@ pub fn cell_numbers(
         standing,
         peak: PEAK_SHARE,
     }
+}
+
+// The numbers of a cell, from the figures of the sheet in force.
+pub fn numbers_in(
+    b: Benchmarks,
+    arrangement: usize,
+    standing: u32,
+    region: u32,
+    method: u32,
+) -> CellNumbers
+    requires { ⌜ Lawful b × (arrangement < 2) × (standing ≤ standingMost) × (region < 14) × (method < 2) ⌝ }
+    ensures { λ r. ⌜ (r ≡ cellNumbers b arrangement standing (cell region method)) × Fits r ⌝ }
+{
+    let charges = b.charges;
+    let levels = b.levels;
+    cell_numbers(
+        &charges,
+        levels[arrangement],
+        b.months,
+        b.days,
+        arrangement,
+        standing,
+        region,
+        method,
+    )
 }
 
 // The walk: by region, then method, both rising, to the first offered cell that exceeds.
@@ -132,29 +156,6 @@ pub fn first_over(b: Benchmarks, x: Tariff) -> Found
     found
 }
 
-// The months of answer 11 and their excess, in a cell in which a tariff exceeds.
-fn worst_in(b: Benchmarks, x: Tariff, region: u32, method: u32) -> WorstCase
-    requires { ⌜ Lawful b × (validTariff x ≡ true) × (region < 14) × (method < 2) × ExceedsIn b x (cell region method) ⌝ }
-    ensures { λ r. ⌜ Carries (numbersOf b x (cell region method)) x r ⌝ }
-{
-    let charges = b.charges;
-    let levels = b.levels;
-    let arrangement = arrangement_of(x);
-    let m = levels[arrangement];
-    let k = cap::corners_of(x, PEAK_SHARE, wide(m));
-    let e = cell_numbers(
-        &charges,
-        m,
-        b.months,
-        b.days,
-        arrangement,
-        x.standing,
-        region,
-        method,
-    );
-    cap::worst_case(x, k, e)
-}
-
 // The verdict on a tariff.
 pub fn verdict_of(b: Benchmarks, x: Tariff) -> Ruling
     requires { ⌜ Lawful b × (validTariff x ≡ true) ⌝ }
@@ -167,7 +168,8 @@ pub fn verdict_of(b: Benchmarks, x: Tariff) -> Ruling
             months: [0; 12],
         },
         Found::Over(region, method) => {
-            let worst = worst_in(b, x, region, method);
+            let e = numbers_in(b, arrangement_of(x), x.standing, region, method);
+            let worst = cap::worst_case(x, e);
             let months = worst.months;
             Ruling {
                 outcome: Outcome::Over(region, method, worst.excess),

@@ -1,11 +1,11 @@
--- `queries::numbers_in` meets its contract: the figures handed on are those of the book, and the numbers of a cell fit.
+-- `verdict::numbers_in` meets its contract: the numbers of a cell fit.
 -- Assumes nothing.
 use mathlib.Core.Path.{refl, sym, subst}
 use Rattle.cap.specs.Corners.{Fits}
 use Rattle.verdict.proofs.Walk.{numbers-fit}
 use borrow.Author.Needs.{needs}
-use Rattle.queries.proofs.numbers_in.Statement.{statement}
-use Rattle.queries.proofs.numbers_in.Tie as tie
+use Rattle.verdict.proofs.numbers_in.Statement.{statement}
+use Rattle.verdict.proofs.numbers_in.Tie as tie
 
 mul-cell-numbers : tie.Need-mul-cell-numbers
 mul-cell-numbers c = search needs
@@ -22,8 +22,8 @@ cell-numbers-requires c κs = search needs
 returns : tie.Need-returns
 returns c =
     let st = c .before .before .before .before in
-    let is = c .cell-numbers .ensures (st .args .f) refl refl refl refl in
-    (is, subst Fits (sym is) (numbers-fit (st .args .f) (st .pre .0) _ _ _ _ (st .pre .3) (st .pre .1) (st .pre .4) (st .pre .2)))
+    let is = c .cell-numbers .ensures (st .args .b) refl refl refl refl in
+    (is, subst Fits (sym is) (numbers-fit (st .args .b) (st .pre .0) _ _ _ _ (st .pre .3) (st .pre .1) (st .pre .4) (st .pre .2)))
 
 pub numbers-in-spec : {M : Type 1} → statement M
 numbers-in-spec =

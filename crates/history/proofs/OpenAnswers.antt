@@ -9,40 +9,31 @@ use Prim.Native.Nat.{ℕ, _<_}
 use native.Mathlib.Decide.{decLt}
 use native.Mathlib.Omega.{arith}
 use lib.IntN.{ℤ, pos}
-use lib.ListN.{length, getD, length-replicate, getD-replicate}
 use lib.Signed.{_≤ℤ_}
-use Rattle.laws.specs.Greatest.{Greatest}
 use Rattle.laws.proofs.Differences.{difference-at-most}
 use Rattle.tariff.specs.declared.Tariff.{Tariff}
 use Rattle.tariff.specs.Tariff.{tariffOf, validTariff}
 use Rattle.tariff.proofs.Validity.{valid-regions, valid-methods}
-use Rattle.cap.specs.declared.Terms.{Terms}
-use Rattle.cap.specs.Cap.{charged, capped, excess, monthMost, Months, Exceeds, share, worstMonth, worstMonths}
-use Rattle.cap.specs.Deciding.{worst-is, worst-months, exceeds-if}
-use Rattle.cap.proofs.Worst.{excess-most, exceeds-at-worst}
-use Rattle.verdict.specs.Cells.{Cell, Offered, terms, cellCount, verdictAt, verdict, firstOver}
+use Rattle.cap.specs.declared.CellNumbers.{CellNumbers}
+use Rattle.cap.specs.Cap.{charged, capped, excess, Months, Exceeds, worstMonths}
+use Rattle.cap.specs.Deciding.{worst-months, exceeds-if}
+use Rattle.cap.proofs.Worst.{excess-most, exceeds-at-worst, each-worst}
+use Rattle.verdict.specs.Cells.{Cell, Offered, cellNumbers, tariffNumbers, cellCount, verdictAt, verdict, firstOver}
 use Rattle.verdict.proofs.Meaning.{none-exceeds, first-exceeds}
 use Rattle.verdict.proofs.Count.{cells-counted}
 use Rattle.book.specs.Calls.{Sheet, Record, Call, OPEN, Answer, opened, refused, over, refusalNumber}
 use Rattle.book.specs.Checks.{figuresOf, outside, verdictAnswer, openAnswer, answer}
 use Rattle.book.proofs.Places.{never}
 use Rattle.history.specs.History.{sheetOf, recordOf, openOf, readings}
-use Rattle.history.specs.Claim.{cellTerms, excessIn, MonthsOf, ExceedsSomewhere, Shows, DraftWhere, cellsOffered, OpenAnswer}
-
--- each of the worst months is the smallest of greatest share
-each-worst : (e : Terms) (x : Tariff) (i : ℕ) → i < length (worstMonths e x)
-    → Greatest (share e x) monthMost (getD (worstMonths e x) i 0)
-each-worst e x i h =
-    let l : i < e .months = omega (arith, length-replicate (e .months) (worstMonth e x)) in
-    subst (Greatest (share e x) monthMost) (sym (getD-replicate (e .months) i (worstMonth e x) 0 l)) (worst-is e x)
+use Rattle.history.specs.Claim.{numbersIn, excessIn, MonthsOf, ExceedsSomewhere, Shows, DraftWhere, cellsOffered, OpenAnswer}
 
 -- what answer 11 shows
 shown : (s : Sheet) (x : Record) (c : Cell) → firstOver (figuresOf s) (tariffOf x) ≡ some c
-    → Shows s x c (worstMonths (cellTerms s x c) (tariffOf x)) (excessIn s x c (worstMonths (cellTerms s x c) (tariffOf x)))
-unfolding terms
+    → Shows s x c (worstMonths (numbersIn s x c) (tariffOf x)) (excessIn s x c (worstMonths (numbersIn s x c) (tariffOf x)))
+unfolding cellNumbers
 shown s x c e =
     let f = first-exceeds (figuresOf s) (tariffOf x) c e in
-    let t = cellTerms s x c in
+    let t = numbersIn s x c in
     record {
       cell = f .0;
       first = f .2;
@@ -55,11 +46,11 @@ shown s x c e =
 
 -- what answer 11 shows is a cell in which the tariff exceeds
 shows-exceeds : (s : Sheet) (x : Record) (c : Cell) (months : List ℕ) (e : ℤ) → Shows s x c months e → ExceedsSomewhere s x
-unfolding terms
+unfolding cellNumbers
 shows-exceeds s x c months e h = (c, h .cell, (months, h .consumptions, rw (h .is-excess) at (h .above)))
 
 -- where a tariff does not exceed, no months are above the maximum
-at-most : (e : Terms) (x : Tariff) → (Exceeds e x → ⊥) → (months : List ℕ) → Months (e .months) months → excess e x months ≤ℤ pos 0
+at-most : (e : CellNumbers) (x : Tariff) → (Exceeds e x → ⊥) → (months : List ℕ) → Months (e .months) months → excess e x months ≤ℤ pos 0
 unfolding excess
 at-most e x n months h = go (decLt (capped e months) (charged e x months))
   where
@@ -69,9 +60,9 @@ at-most e x n months h = go (decLt (capped e months) (charged e x months))
 
 pub nowhere-above : (s : Sheet) (x : Record) → firstOver (figuresOf s) (tariffOf x) ≡ none
     → (c : Cell) → Offered (tariffOf x) c → (months : List ℕ) → MonthsOf s months → excessIn s x c months ≤ℤ pos 0
-unfolding terms
+unfolding cellNumbers
 nowhere-above s x e c o months h =
-    at-most (terms (figuresOf s) (tariffOf x) c) (tariffOf x) (none-exceeds (figuresOf s) (tariffOf x) e c o) months h
+    at-most (tariffNumbers (figuresOf s) (tariffOf x) c) (tariffOf x) (none-exceeds (figuresOf s) (tariffOf x) e c o) months h
 
 -- a tariff that exceeds nowhere has no first cell that exceeds
 pub nowhere : (s : Sheet) (x : Record) → (ExceedsSomewhere s x → ⊥) → firstOver (figuresOf s) (tariffOf x) ≡ none

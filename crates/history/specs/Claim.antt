@@ -12,9 +12,10 @@ use lib.Signed.{_<ℤ_, _≤ℤ_}
 use Rattle.laws.specs.Notions.{count}
 use Rattle.laws.specs.Greatest.{Greatest}
 use Rattle.tariff.specs.Tariff.{tariffOf}
-use Rattle.cap.specs.declared.Terms.{Terms}
-use Rattle.cap.specs.Cap.{excess, monthMost, Months, share}
-use Rattle.verdict.specs.Cells.{Cell, offered, Offered, terms, ExceedsIn, Before, cellAt}
+use Rattle.charge.specs.Charge.{monthMost}
+use Rattle.cap.specs.declared.CellNumbers.{CellNumbers}
+use Rattle.cap.specs.Cap.{excess, Months, share}
+use Rattle.verdict.specs.Cells.{Cell, offered, Offered, tariffNumbers, ExceedsIn, Before, cellAt}
 use Rattle.book.specs.declared.Book.{Book}
 use Rattle.book.specs.declared.Done.{Done}
 use Rattle.book.specs.Calls.{Sheet, Record, Call, OPEN, Answer, opened, over, refusalNumber}
@@ -27,12 +28,12 @@ use Rattle.history.specs.History.{acceptedOf, answersAfter, sheetOf, rec
 abbrev pub OpenIn : Book → ℕ → Record → Type 0
 OpenIn b k x = (isOpen (placeOf (b .places) k) ≡ true) × (held (placeOf (b .places) k) ≡ some x)
 
--- the terms of a cell, with a sheet's figures, and the excess of months there
-abbrev pub cellTerms : Sheet → Record → Cell → Terms
-cellTerms s x c = terms (figuresOf s) (tariffOf x) c
+-- the numbers of a tariff's cell, with a sheet's figures, and the excess of months there
+abbrev pub numbersIn : Sheet → Record → Cell → CellNumbers
+numbersIn s x c = tariffNumbers (figuresOf s) (tariffOf x) c
 
 abbrev pub excessIn : Sheet → Record → Cell → List ℕ → ℤ
-excessIn s x c months = excess (cellTerms s x c) (tariffOf x) months
+excessIn s x c months = excess (numbersIn s x c) (tariffOf x) months
 
 -- a list of t monthly consumptions, t that of the sheet's period
 abbrev pub MonthsOf : Sheet → List ℕ → Type 0
@@ -50,7 +51,7 @@ pub record Shows (s : Sheet) (x : Record) (c : Cell) (months : List ℕ) (e : �
   -- "t monthly consumptions of greatest excess, each the smallest at which a month's share of the excess is greatest"
   pub consumptions : MonthsOf s months
   pub greatest : (others : List ℕ) → MonthsOf s others → excessIn s x c others ≤ℤ e
-  pub smallest : (i : ℕ) → i < length months → Greatest (share (cellTerms s x c) (tariffOf x)) monthMost (getD months i 0)
+  pub smallest : (i : ℕ) → i < length months → Greatest (share (numbersIn s x c) (tariffOf x)) monthMost (getD months i 0)
   -- "The excess in answer 11 is that of its months in its cell", and above 0
   pub is-excess : e ≡ excessIn s x c months
   pub above : pos 0 <ℤ e

@@ -3,6 +3,7 @@
 use mathlib.Core.Path.{_≡_, sym, _∙_, ap}
 use mathlib.Core.Bool.{true, _&&_}
 use Prim.Native.Nat.{ℕ}
+use native.Mathlib.Omega.{arith}
 use lib.Dec.{ltb}
 use lib.ListN.{getD}
 use borrow.Author.Tests.{ltb-true}
@@ -54,7 +55,7 @@ figure-index-requires : tie.Need-figure-index-requires
 figure-index-requires c κs =
     let g = c .before .before .before .before .before in
     let w = within _ _ _ _ (ranged g) in
-    (w .region, w .arrangement, w .method, ltb-true _ 2 (w .fourth))
+    (w .region, w .arrangement, w .method, omega (arith, ltb-true (g .before .before .before .args .level) 2 (w .fourth)))
 
 mul-wide : tie.Need-mul-wide
 mul-wide c = search needs

@@ -3,6 +3,7 @@
 use mathlib.Core.Path.{_≡_, sym, _∙_, ap, ap₂}
 use mathlib.Core.Bool.{true, _&&_}
 use Prim.Native.Nat.{ℕ}
+use native.Mathlib.Omega.{arith}
 use lib.ListN.{getD}
 use lib.Dec.{ltb}
 use borrow.Author.Tests.{ltb-true}
@@ -55,8 +56,9 @@ returns c =
 
 figure-index-requires : tie.Need-figure-index-requires
 figure-index-requires c κs =
-    let w = within _ _ _ _ (passed (c .before .before) .0) in
-    (w .region, w .arrangement, w .method, ltb-true _ 2 (w .fourth))
+    let t = c .before .before in
+    let w = within _ _ _ _ (passed t .0) in
+    (w .region, w .arrangement, w .method, omega (arith, ltb-true (t .before .before .before .before .before .args .level) 2 (w .fourth)))
 
 mul-wide : tie.Need-mul-wide
 mul-wide c = search needs

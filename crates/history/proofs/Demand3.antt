@@ -1,47 +1,38 @@
--- Demand 3 holds. The book agrees with the readings of the log, call by call, and whatever is open by the log exceeds nowhere
--- with the sheet in force.
+-- Demand 3 holds: what the checks read of the book is what they read from the log, call by call.
 -- Assumes nothing.
 use mathlib.Core.Path.{_≡_, refl, sym, _∙_, ap, ap₂, subst}
 use mathlib.Core.Bool.{Bool, true, false, cond, _&&_}
-use mathlib.Core.Logic.{_↔_, _⊎_, inl, inr}
 use mathlib.Core.List.{List, [], _∷_, _++_}
 use mathlib.Core.Option.{Option, none, some}
 use Prim.Native.Nat.{ℕ}
 use lib.Dec.{eqb}
-use lib.ListN.{length, getElem?, length-map, length-replicate}
+use lib.IntN.{pos}
+use lib.ListN.{length, getElem?}
+use lib.Signed.{_≤ℤ_}
 use borrow.Author.Tests.{eqb-true}
-use Rattle.laws.proofs.Every.{and-right}
-use Rattle.tariff.specs.Tariff.{tariffOf, validTariff, recordCheck}
-use Rattle.verdict.specs.Cells.{Cell, firstOver}
-use Rattle.verdict.proofs.Meaning.{none-exceeds}
+use Rattle.laws.proofs.Never.{never}
+use Rattle.benchmark.specs.declared.Benchmarks.{Benchmarks}
+use Rattle.tariff.specs.declared.Tariff.{Tariff}
+use Rattle.tariff.specs.Tariff.{tariffOf, validTariff}
+use Rattle.verdict.specs.Cells.{Cell, Offered}
 use Rattle.book.specs.declared.State.{State}
 use Rattle.book.specs.declared.State.the-variants.{Empty, Draft, Open}
 use Rattle.book.specs.declared.Place.{Place}
 use Rattle.book.specs.declared.Book.{Book}
-use Rattle.book.specs.Calls.{Sheet, Record, Call, SET, PUT, OPEN, CLOSE, DROP, isAccepted, isNone}
-use Rattle.book.specs.Checks.{figuresOf, outside, answer, complies}
-use Rattle.book.specs.Book.{empty, stored, numbers, withState, fresh, placeOf, heldIn, held, isOpen, sheetIf, sheetIn, bookReadings, withPlace, under, changed, after, step, bookAfter, answersOf}
-use Rattle.book.proofs.Places.{never, inside, at-set, length-setPlace, at-map, held-under, open-under, fresh-place, held-numbers, held-inside, record-length, listed}
-use Rattle.book.proofs.Found.{put-accepted, close-accepted, drop-accepted, Opens, open-accepted}
-use Rattle.book.proofs.Reached.{reached, tariff-held}
-use Rattle.history.specs.History.{sheetOf, recordOf, openOf, readings, noted, logAfter, acceptedOf, answersAfter}
-use Rattle.history.specs.Claim.{ExceedsSomewhere, OpenAnswer, Demand3}
-use Rattle.history.proofs.OpenAnswers.{nowhere-above, nowhere, open-answer}
+use Rattle.book.specs.Calls.{Sheet, Act, SET, PUT, OPEN, CLOSE, DROP, Call, isAccepted}
+use Rattle.book.specs.Checks.{Holding, Readings, figuresOf, complies, inside, answer}
+use Rattle.book.specs.Book.{empty, placeWith, tariffIn, withState, fresh, placeOf, holding, heldIn, held, inForce, bookReadings, withPlace, openIf, stateUnder, changed, after, step, bookAfter, answersOf, Reachable}
+use Rattle.book.proofs.Places.{code-range, at-set, at-map, fresh-place, held-inside, record-valid}
+use Rattle.book.proofs.Accepted.{put-accepted, close-accepted, drop-accepted, open-accepted}
+use Rattle.book.proofs.Reached.{fresh-reachable, step-reachable}
+use Rattle.stands.specs.Stands.{Recorded, MayOpen, FitsAs}
+use Rattle.stands.proofs.Kept.{reachable-stands}
+use Rattle.history.specs.History.{sheetOf, tariffAt, openOf, staysOpen, heldAs, readings, noted, logAfter, acceptedOf, answersAfter}
+use Rattle.history.specs.Claim.{MonthsOf, excessIn, OpenAnswer, Demand3}
+use Rattle.history.proofs.OpenAnswers.{nowhere-above, open-answer}
 
--- the log's readings are the book's
-record Agrees (log : List Call) (b : Book) : Type 0 where
-  sheet : sheetIf (b .loaded) (sheetIn b) ≡ sheetOf log
-  tariff : (k : ℕ) → held (placeOf (b .places) k) ≡ recordOf log k
-  open-codes : (k : ℕ) → isOpen (placeOf (b .places) k) ≡ openOf log k
-  size : length (b .places) ≡ 32
-
-same-readings : {log : List Call} {b : Book} → Agrees log b → bookReadings b ≡ readings log
-same-readings a = λ i. record { sheet = a .sheet i; tariff = λ k. a .tariff k i; isOpen = λ k. a .open-codes k i }
-
--- what is open by the log exceeds nowhere with the sheet in force
-abbrev Within : List Call → Type 0
-Within log = (k : ℕ) (x : Record) → openOf log k ≡ true → recordOf log k ≡ some x
-    → (s : Sheet) × (sheetOf log ≡ some s) × (firstOver (figuresOf s) (tariffOf x) ≡ none)
+same-readings : (r q : Readings) → r .sheet ≡ q .sheet → ((k : ℕ) → r .held k ≡ q .held k) → r ≡ q
+same-readings r q s h = λ i. record { sheet = s i; held = λ k. h k i }
 
 -- a reading of code k written at code k is the reading
 kept : {A : Type 0} (g : ℕ → A) (k j : ℕ) → cond (eqb k j) (g k) (g j) ≡ g j
@@ -51,203 +42,187 @@ kept g k j = go (eqb k j) refl
     go true e = ap g (eqb-true k j e)
     go false e = refl
 
--- a tariff that is written back at its code changes no reading of tariffs
-kept-record : (log : List Call) (k j : ℕ) (x : Record) → recordOf log k ≡ some x → (y : Record) → y ≡ x
-    → cond (eqb k j) (some y) (recordOf log j) ≡ recordOf log j
-kept-record log k j x its y e =
-    let same : some y ≡ recordOf log k = ap some e ∙ sym its in
-    ap (λ t. cond (eqb k j) t (recordOf log j)) same ∙ kept (recordOf log) k j
+-- what is held where a tariff and whether it is open are written
+cond-held : (c : Bool) (t u : Option Tariff) (o p : Bool) → cond c (heldAs t o) (heldAs u p) ≡ heldAs (cond c t u) (cond c o p)
+cond-held true t u o p = refl
+cond-held false t u o p = refl
 
--- one place set: what the longer log must then read
-agrees-place : (log log′ : List Call) (b : Book) (k : ℕ) (p : Place) → Agrees log b → outside k ≡ false
-    → sheetOf log ≡ sheetOf log′
-    → ((j : ℕ) → cond (eqb k j) (held p) (recordOf log j) ≡ recordOf log′ j)
-    → ((j : ℕ) → cond (eqb k j) (isOpen p) (openOf log j) ≡ openOf log′ j)
-    → Agrees log′ (withPlace b k p)
-agrees-place log log′ b k p a r s t o =
-    record {
-      sheet = a .sheet ∙ s;
-      tariff = λ j. at-set held (b .places) p (a .size) k j (inside k r) ∙ ap (cond (eqb k j) (held p)) (a .tariff j) ∙ t j;
-      open-codes = λ j. at-set isOpen (b .places) p (a .size) k j (inside k r) ∙ ap (cond (eqb k j) (isOpen p)) (a .open-codes j) ∙ o j;
-      size = length-setPlace (b .places) k p ∙ a .size;
-    }
+-- a tariff that is held and is opened or closed
+reheld : (s : State) (x : Tariff) (h : Holding) (t : Option Tariff) (o p : Bool) → heldIn s x ≡ some h → heldIn s x ≡ heldAs t o
+    → some (holding x p) ≡ heldAs t p
+reheld Empty x h t o p f e = never (cc)
+reheld Draft x h none o p f e = never (cc)
+reheld Draft x h (some y) o p f e = let same : holding x false ≡ holding y o = cc in ap (λ g. some (holding (g .tariff) p)) same
+reheld Open x h none o p f e = never (cc)
+reheld Open x h (some y) o p f e = let same : holding x true ≡ holding y o = cc in ap (λ g. some (holding (g .tariff) p)) same
 
--- an accepted call, on the book and in the log
-agrees-changed : (log : List Call) (b : Book) → Agrees log b → (c : Call) → isAccepted (answer (readings log) c) ≡ true
-    → Agrees (c ∷ log) (changed b c)
-agrees-changed log b a (SET s) e =
-    record {
-      sheet = refl;
-      tariff = λ k.
-          let p = placeOf (b .places) k in
-          ap held (at-map s (b .places) k) ∙ held-under s (p .state) (numbers p) ∙ a .tariff k;
-      open-codes = λ k.
-          let p = placeOf (b .places) k in
-          ap isOpen (at-map s (b .places) k) ∙ open-under s (p .state) (numbers p) ∙ ap₂ (λ o t. o && complies s t) (a .open-codes k) (a .tariff k);
-      size = length-map (b .places) (under s) ∙ a .size;
-    }
-agrees-changed log b a (PUT k x) e =
-    let f = put-accepted (outside k) (openOf log k) (recordCheck x) e in
-    agrees-place log (PUT k x ∷ log) b k (stored Draft x) a (f .0) refl
-    (λ j. ap (λ y. cond (eqb k j) (some y) (recordOf log j)) (listed Draft x (record-length x (f .1))))
-    (λ j. refl)
-agrees-changed log b a (OPEN k) e =
-    let p = placeOf (b .places) k in
-    let f = open-accepted (outside k) (recordOf log k) (openOf log k) (sheetOf log) e in
-    agrees-place log (OPEN k ∷ log) b k (withState Open p) a (f .in-range) refl
-    (λ j. kept-record log k j (f .x) (f .its) (numbers p) (held-numbers (p .state) (numbers p) (f .x) (a .tariff k ∙ f .its)))
-    (λ j. refl)
-agrees-changed log b a (CLOSE k) e =
-    let p = placeOf (b .places) k in
-    let f = close-accepted (outside k) (recordOf log k) (openOf log k) e in
-    agrees-place log (CLOSE k ∷ log) b k (withState Draft p) a (f .0) refl
-    (λ j. kept-record log k j (f .1) (f .2) (numbers p) (held-numbers (p .state) (numbers p) (f .1) (a .tariff k ∙ f .2)))
-    (λ j. refl)
-agrees-changed log b a (DROP k) e =
-    agrees-place log (DROP k ∷ log) b k empty a (drop-accepted (outside k) (recordOf log k) (openOf log k) e) refl (λ j. refl) (λ j. refl)
+-- a sheet comes in
+abbrev judgedBy : Benchmarks → Option Holding → Option Holding
+judgedBy f none = none
+judgedBy f (some h) = some (holding (h .tariff) (h .isOpen && complies f (h .tariff)))
 
--- a code that a call on code j left open was open before, and is another
-not-that : (j k : ℕ) (o : Bool) → cond (eqb j k) false o ≡ true → (eqb j k ≡ false) × (o ≡ true)
-not-that j k o h = go (eqb j k) refl h
+place-judged : (f : Benchmarks) (s : State) (x : Tariff) → heldIn (stateUnder f s x) x ≡ judgedBy f (heldIn s x)
+place-judged f Empty x = refl
+place-judged f Draft x = refl
+place-judged f Open x = go (complies f x)
   where
-    go : (t : Bool) → eqb j k ≡ t → cond t false o ≡ true → (eqb j k ≡ false) × (o ≡ true)
-    go true e h = never (cc)
-    go false e h = (e, h)
+    go : (t : Bool) → heldIn (openIf t) x ≡ some (holding x t)
+    go true = refl
+    go false = refl
 
-none-of : (o : Option Cell) → isNone o ≡ true → o ≡ none
-none-of none e = refl
-none-of (some c) e = never (cc)
+log-judged : (s : Sheet) (t : Option Tariff) (o : Bool) → judgedBy (figuresOf s) (heldAs t o) ≡ heldAs t (o && staysOpen s t)
+log-judged s none o = refl
+log-judged s (some x) o = refl
 
-complies-none : (s : Sheet) (t : Option Record) (x : Record) → t ≡ some x → complies s t ≡ true
-    → firstOver (figuresOf s) (tariffOf x) ≡ none
-complies-none s t x e h = none-of (firstOver (figuresOf s) (tariffOf x)) (sym (ap (complies s) e) ∙ h)
+-- one call, on a book of which the checks read what they read from the log
+module _ (log : List Act) (b : Book) (from : Reachable b) (same : bookReadings b ≡ readings log) where
+  held-is : (k : ℕ) → held (placeOf (b .places) k) ≡ heldAs (tariffAt log k) (openOf log k)
+  held-is k = ap (λ r. r .held k) same
 
-within-changed : (log : List Call) → Within log → (c : Call) → isAccepted (answer (readings log) c) ≡ true → Within (c ∷ log)
-within-changed log h (SET s) e k x o t =
-    (s, refl, complies-none s (recordOf log k) x t (and-right (openOf log k) (complies s (recordOf log k)) o))
-within-changed log h (PUT j y) e k x o t =
-    let n = not-that j k (openOf log k) o in
-    h k x (n .1) (rw (n .0) at t)
-within-changed log h (OPEN j) e k x o t = go (eqb j k) refl o
-  where
-    f : Opens (outside j) (recordOf log j) (sheetOf log)
-    f = open-accepted (outside j) (recordOf log j) (openOf log j) (sheetOf log) e
+  -- one place set
+  place-set : (k : ℕ) (p : Place) (t : Option Tariff) (o : Bool) (tariffs : ℕ → Option Tariff) → inside k ≡ true → held p ≡ heldAs t o
+      → ((j : ℕ) → cond (eqb k j) t (tariffAt log j) ≡ tariffs j)
+      → bookReadings (withPlace b k p) ≡ record { sheet = sheetOf log; held = λ j. heldAs (tariffs j) (cond (eqb k j) o (openOf log j)) }
+  place-set k p t o tariffs i h e =
+      same-readings _ _ (ap (λ r. r .sheet) same)
+      (λ j.
+      at-set held (b .places) p (reachable-stands b from .size) k j (code-range k i)
+      ∙ ap₂ (cond (eqb k j)) h (held-is j)
+      ∙ cond-held (eqb k j) t (tariffAt log j) o (openOf log j)
+      ∙ ap (λ u. heldAs u (cond (eqb k j) o (openOf log j))) (e j))
 
-    go : (q : Bool) → eqb j k ≡ q → cond q true (openOf log k) ≡ true
-        → (s : Sheet) × (sheetOf log ≡ some s) × (firstOver (figuresOf s) (tariffOf x) ≡ none)
-    go true q o =
-        let jk : j ≡ k = eqb-true j k q in
-        let its : recordOf log j ≡ some (f .x) = f .its in
-        let same : x ≡ f .x = cc in
-        (f .sheet, f .in-force, ap (λ y. firstOver (figuresOf (f .sheet)) (tariffOf y)) same ∙ f .none-over)
-    go false q o = h k x o t
-within-changed log h (CLOSE j) e k x o t = h k x (not-that j k (openOf log k) o .1) t
-within-changed log h (DROP j) e k x o t =
-    let n = not-that j k (openOf log k) o in
-    h k x (n .1) (rw (n .0) at t)
+  -- an accepted call
+  changed-reads : (a : Act) → isAccepted (answer (bookReadings b) a) ≡ true → bookReadings (changed b a) ≡ readings (a ∷ log)
+  changed-reads (SET s) e =
+      same-readings _ _ refl
+      (λ k.
+      let p = placeOf (b .places) k in
+      ap held (at-map (figuresOf s) (b .places) k)
+      ∙ place-judged (figuresOf s) (p .state) (tariffIn p)
+      ∙ ap (judgedBy (figuresOf s)) (held-is k)
+      ∙ log-judged s (tariffAt log k) (openOf log k))
+  changed-reads (PUT k x) e =
+      place-set k (placeWith Draft (tariffOf x)) (some (tariffOf x)) false _ (put-accepted k (held (placeOf (b .places) k)) x e .0) refl (λ j. refl)
+  changed-reads (OPEN k) e =
+      let p = placeOf (b .places) k in
+      let f = open-accepted k (held p) (inForce b) e in
+      place-set k (withState Open p) (tariffAt log k) true _ (f .code)
+      (reheld (p .state) (tariffIn p) (f .h) (tariffAt log k) (openOf log k) true (f .its) (held-is k)) (kept (tariffAt log) k)
+  changed-reads (CLOSE k) e =
+      let p = placeOf (b .places) k in
+      let f = close-accepted k (held p) e in
+      place-set k (withState Draft p) (tariffAt log k) false _ (f .0)
+      (reheld (p .state) (tariffIn p) (f .1) (tariffAt log k) (openOf log k) false (f .2) (held-is k)) (kept (tariffAt log) k)
+  changed-reads (DROP k) e = place-set k empty none false _ (drop-accepted k (held (placeOf (b .places) k)) e) refl (λ j. refl)
 
--- one call, accepted or not
-noted-step : (log : List Call) (b : Book) (c : Call) → Agrees log b × Within log
-    → Agrees (noted log c) (step b c .book) × Within (noted log c)
-unfolding step
-noted-step log b c h = go (isAccepted (answer (readings log) c)) refl
-  where
-    same : answer (bookReadings b) c ≡ answer (readings log) c
-    same = ap (λ r. answer r c) (same-readings (h .0))
-
-    go : (t : Bool) → isAccepted (answer (readings log) c) ≡ t
-        → Agrees (noted log c) (after (answer (bookReadings b) c) b c) × Within (noted log c)
-    go true e = rw (same, e) (agrees-changed log b (h .0) c e, within-changed log (h .1) c e)
-    go false e = rw (same, e) h
+  -- a call, accepted or not
+  step-reads : (c : Call) → bookReadings (step b c .book) ≡ readings (noted log c)
+  unfolding step
+  step-reads c =
+      subst (λ r. bookReadings (step b c .book) ≡ readings (cond (isAccepted (answer r (c .act))) (c .act ∷ log) log)) same
+      (go (isAccepted (answer (bookReadings b) (c .act))) refl)
+    where
+      go : (t : Bool) → isAccepted (answer (bookReadings b) (c .act)) ≡ t → bookReadings (cond t (changed b (c .act)) b) ≡ readings (cond t (c .act ∷ log) log)
+      go true e = changed-reads (c .act) e
+      go false e = same
 
 -- a list of calls
-all-steps : (cs : List Call) (log : List Call) (b : Book) → Agrees log b × Within log
-    → (answersOf b cs ≡ answersAfter log cs) × Agrees (logAfter log cs) (bookAfter b cs) × Within (logAfter log cs)
+all-steps : (cs : List Call) (log : List Act) (b : Book) → Reachable b → bookReadings b ≡ readings log
+    → (answersOf b cs ≡ answersAfter log cs) × (bookReadings (bookAfter b cs) ≡ readings (logAfter log cs))
 unfolding step answersOf answersAfter logAfter bookAfter
-all-steps [] log b h = (refl, h .0, h .1)
-all-steps (c ∷ cs) log b h =
-    let r = all-steps cs (noted log c) (step b c .book) (noted-step log b c h) in
-    (ap₂ _∷_ (ap (λ r. answer r c) (same-readings (h .0))) (r .0), r .1, r .2)
+all-steps [] log b from same = (refl, same)
+all-steps (c ∷ cs) log b from same =
+    let r = all-steps cs (noted log c) (step b c .book) (step-reachable from c) (step-reads log b from same c) in
+    (ap₂ _∷_ (ap (λ r. answer r (c .act)) same) (r .0), r .1)
 
-at-start : Agrees [] fresh × Within []
-at-start = (
-  record {
-    sheet = refl;
-    tariff = λ k. fresh-place held refl k;
-    open-codes = λ k. fresh-place isOpen refl k;
-    size = length-replicate 32 empty;
-  },
-  λ k x o t. never (cc),
-)
+at-start : bookReadings fresh ≡ readings []
+at-start = same-readings _ _ refl (λ k. fresh-place held refl k)
 
--- what a SET asks of an open tariff, in History's `openOf`: that it exceeds in no offered cell
-pub complies-exactly : (s : Sheet) (x : Record) → (complies s (some x) ≡ true) ↔ (ExceedsSomewhere s x → ⊥)
-complies-exactly s x = (
-  λ e w. none-exceeds (figuresOf s) (tariffOf x) (complies-none s (some x) x refl e) (w .0) (w .1) (w .2),
-  λ n. ap isNone (nowhere s x n),
-)
+-- what a place that fits holds
+fits-held : (f : Option Sheet) (s : State) (p : Place) → FitsAs f s p → (x : Tariff) (o : Bool) → heldIn s (tariffIn p) ≡ some (holding x o)
+    → Recorded x × (o ≡ true → MayOpen f x)
+fits-held f Empty p w x o e = never (cc)
+fits-held f Draft p w x o e =
+    let same : holding (tariffIn p) false ≡ holding x o = cc in
+    let shut : false ≡ o = ap (λ h. h .isOpen) same in
+    (subst Recorded (ap (λ h. h .tariff) same) w, λ q. never (cc))
+fits-held f Open p w x o e =
+    let same : holding (tariffIn p) true ≡ holding x o = cc in
+    (subst Recorded (ap (λ h. h .tariff) same) (w .0), λ q. subst (MayOpen f) (ap (λ h. h .tariff) same) (w .1))
+
+-- an open code, by what is held
+open-held : (t : Option Tariff) (o : Bool) (x : Tariff) → heldAs t o ≡ some (holding x true) → (o ≡ true) × (t ≡ some x)
+open-held none o x e = never (cc)
+open-held (some y) o x e =
+    let same : holding y o ≡ holding x true = cc in
+    (ap (λ h. h .isOpen) same, ap (λ h. some (h .tariff)) same)
+
+-- an open tariff is within the cap
+within-cap : (f : Option Sheet) (x : Tariff) → MayOpen f x
+    → (s : Sheet) × (f ≡ some s) × ((c : Cell) → Offered x c → (months : List ℕ) → MonthsOf s months → excessIn s x c months ≤ℤ pos 0)
+within-cap none x m = absurd m
+within-cap (some s) x m = (s, refl, nowhere-above s x m)
 
 -- the answer that stands at a place of the list
-answer-at : (before after : List Call) (c : Call) (log : List Call)
-    → getElem? (answersAfter log (before ++ (c ∷ after))) (length before) ≡ some (answer (readings (logAfter log before)) c)
+answer-at : (before after : List Call) (c : Call) (log : List Act)
+    → getElem? (answersAfter log (before ++ (c ∷ after))) (length before) ≡ some (answer (readings (logAfter log before)) (c .act))
 unfolding answersAfter logAfter
 answer-at [] after c log = refl
 answer-at (d ∷ before) after c log = answer-at before after c (noted log d)
 
--- a code with a tariff is one of the 32, and its tariff passed refusal 8
-in-place : (s : State) (x y : Record) → heldIn s y ≡ some x → (s ≡ Draft) ⊎ (s ≡ Open)
-in-place Empty x y e = never (cc)
-in-place Draft x y e = inl refl
-in-place Open x y e = inr refl
+-- after any list of calls
+module _ (calls : List Call) where
+  abbrev log : List Act
+  log = acceptedOf calls
 
-known : (calls : List Call) → Agrees (acceptedOf calls) (bookAfter fresh calls) → (k : ℕ) (x : Record) → recordOf (acceptedOf calls) k ≡ some x
-    → (outside k ≡ false) × (validTariff (tariffOf x) ≡ true)
-known calls a k x e =
-    let b = bookAfter fresh calls in
-    let p = placeOf (b .places) k in
-    let here : held p ≡ some x = a .tariff k ∙ e in
-    let sound = reached b (record { calls = calls; left = refl }) in
-    let valid = tariff-held p (sound .places k) (in-place (p .state) x (numbers p) here) .1 in
-    let same : numbers p ≡ x = held-numbers (p .state) (numbers p) x here in
-    (held-inside (b .places) k x (a .size) here, subst (λ y. validTariff (tariffOf y) ≡ true) same valid)
+  abbrev b : Book
+  b = bookAfter fresh calls
 
--- after any list of calls, the answer that is read for an OPEN
-read-open : (calls : List Call) (k : ℕ) → OpenAnswer (acceptedOf calls) k (answer (readings (acceptedOf calls)) (OPEN k))
-read-open calls k = open-answer (acceptedOf calls) k (known calls (all-steps calls [] fresh at-start .1) k)
+  all-answers : answersOf fresh calls ≡ answersAfter [] calls
+  all-answers = all-steps calls [] fresh fresh-reachable at-start .0
+
+  same : bookReadings b ≡ readings log
+  same = all-steps calls [] fresh fresh-reachable at-start .1
+
+  reached : Reachable b
+  reached = record { calls = calls; left = refl }
+
+  holds : (k : ℕ) → held (placeOf (b .places) k) ≡ heldAs (tariffAt log k) (openOf log k)
+  holds k = ap (λ r. r .held k) same
+
+  fits-at : (k : ℕ) (x : Tariff) (o : Bool) → held (placeOf (b .places) k) ≡ some (holding x o)
+      → (inside k ≡ true) × Recorded x × (o ≡ true → MayOpen (inForce b) x)
+  fits-at k x o e =
+      let p = placeOf (b .places) k in
+      let w = reachable-stands b reached in
+      let i = held-inside (b .places) k (holding x o) (w .size) e in
+      let f = fits-held (inForce b) (p .state) p (w .places k i) x o e in
+      (i, f .0, f .1)
+
+  -- a code with a tariff is one of the 32, and its tariff is valid
+  known : (k : ℕ) (x : Tariff) → tariffAt log k ≡ some x → (inside k ≡ true) × (validTariff x ≡ true)
+  known k x e =
+      let f = fits-at k x (openOf log k) (holds k ∙ ap (λ t. heldAs t (openOf log k)) e) in
+      (f .0, ap validTariff (f .1 .2) ∙ record-valid (f .1 .0) (f .1 .1))
+
+  -- the answer that is read for an OPEN
+  read-open : (c : Call) (k : ℕ) → c .act ≡ OPEN k → OpenAnswer log k (answer (readings log) (c .act))
+  read-open c k e = subst (λ a. OpenAnswer log k (answer (readings log) a)) (sym e) (open-answer log k (known k))
 
 -- the theorem
 pub demand3 : (calls : List Call) → Demand3 calls (answersOf fresh calls) (bookAfter fresh calls)
 unfolding step
 demand3 calls =
     record {
-      answered = h .0;
-      open-places = λ k x. (
-        λ e. (sym (a .open-codes k) ∙ e .0, sym (a .tariff k) ∙ e .1),
-        λ o. (a .open-codes k ∙ o .0, a .tariff k ∙ o .1),
-      );
+      answered = all-answers calls;
+      open-places = λ k x. (λ e. open-held _ _ x (sym (holds calls k) ∙ e), λ w. holds calls k ∙ ap₂ heldAs (w .1) (w .0));
       within = λ k x e.
-          let w = cap k x (sym (a .open-codes k) ∙ e .0) (sym (a .tariff k) ∙ e .1) in
-          (w .0, w .1, nowhere-above (w .0) x (w .2));
-      each-open = λ before after k e. (answer (readings (acceptedOf before)) (OPEN k), stands before after k e, read-open before k);
-      next-open = λ k. subst (OpenAnswer log k) (sym (ap (λ r. answer r (OPEN k)) (same-readings a))) (read-open calls k);
+          let w = within-cap (inForce (b calls)) x (fits-at calls k x true e .2 refl) in
+          (w .0, sym (ap (λ r. r .sheet) (same calls)) ∙ w .1, w .2);
+      each-open = λ before after c k e a. (
+        answer (readings (log before)) (c .act),
+        ap (λ l. getElem? l (length before)) (all-answers calls ∙ ap (answersAfter []) e) ∙ answer-at before after c [],
+        read-open before c k a,
+      );
+      next-open = λ c k a. subst (OpenAnswer (log calls) k) (ap (λ r. answer r (c .act)) (sym (same calls))) (read-open calls c k a);
     }
-  where
-    b : Book
-    b = bookAfter fresh calls
-
-    log : List Call
-    log = acceptedOf calls
-
-    h : (answersOf fresh calls ≡ answersAfter [] calls) × Agrees log b × Within log
-    h = all-steps calls [] fresh at-start
-
-    a : Agrees log b
-    a = h .1
-
-    cap : Within log
-    cap = h .2
-
-    stands : (before after : List Call) (k : ℕ) → calls ≡ before ++ (OPEN k ∷ after)
-        → getElem? (answersOf fresh calls) (length before) ≡ some (answer (readings (acceptedOf before)) (OPEN k))
-    stands before after k e =
-        ap (λ l. getElem? l (length before)) (h .0 ∙ ap (answersAfter []) e) ∙ answer-at before after (OPEN k) []

@@ -11,62 +11,62 @@ use lib.ListN.{length, getD, getElem?}
 use lib.Signed.{_<ℤ_, _≤ℤ_}
 use Rattle.laws.specs.Notions.{count}
 use Rattle.laws.specs.Greatest.{Greatest}
-use Rattle.tariff.specs.Tariff.{tariffOf}
+use Rattle.tariff.specs.declared.Tariff.{Tariff}
 use Rattle.charge.specs.Charge.{monthMost}
 use Rattle.cap.specs.declared.CellNumbers.{CellNumbers}
 use Rattle.cap.specs.Cap.{excess, Months, share}
 use Rattle.verdict.specs.Cells.{Cell, offered, Offered, tariffNumbers, ExceedsIn, Before, cellAt}
 use Rattle.book.specs.declared.Book.{Book}
 use Rattle.book.specs.declared.Done.{Done}
-use Rattle.book.specs.Calls.{Sheet, Record, Call, OPEN, Answer, opened, over, refusalNumber}
+use Rattle.book.specs.Calls.{Sheet, Act, OPEN, Call, Answer, opened, over, refusalNumber}
 use Rattle.book.specs.Checks.{figuresOf}
-use Rattle.book.specs.Book.{isOpen, held, placeOf, fresh, step}
+use Rattle.book.specs.Book.{holding, held, placeOf, fresh, step}
 use Rattle.book.specs.Promises.{answerOf, Does}
-use Rattle.history.specs.History.{acceptedOf, answersAfter, sheetOf, recordOf, openOf}
+use Rattle.history.specs.History.{sheetOf, tariffAt, openOf, acceptedOf, answersAfter}
 
--- the place of code k is open with the tariff of record x
-abbrev pub OpenIn : Book → ℕ → Record → Type 0
-OpenIn b k x = (isOpen (placeOf (b .places) k) ≡ true) × (held (placeOf (b .places) k) ≡ some x)
+-- the place of code k holds tariff x, open
+abbrev pub OpenIn : Book → ℕ → Tariff → Type 0
+OpenIn b k x = held (placeOf (b .places) k) ≡ some (holding x true)
 
 -- the numbers of a tariff's cell, with a sheet's figures, and the excess of months there
-abbrev pub numbersIn : Sheet → Record → Cell → CellNumbers
-numbersIn s x c = tariffNumbers (figuresOf s) (tariffOf x) c
+abbrev pub numbersWith : Sheet → Tariff → Cell → CellNumbers
+numbersWith s x c = tariffNumbers (figuresOf s) x c
 
-abbrev pub excessIn : Sheet → Record → Cell → List ℕ → ℤ
-excessIn s x c months = excess (numbersIn s x c) (tariffOf x) months
+abbrev pub excessIn : Sheet → Tariff → Cell → List ℕ → ℤ
+excessIn s x c months = excess (numbersWith s x c) x months
 
 -- a list of t monthly consumptions, t that of the sheet's period
 abbrev pub MonthsOf : Sheet → List ℕ → Type 0
 MonthsOf s months = Months (figuresOf s .months) months
 
 -- the tariff exceeds in some offered cell
-abbrev pub ExceedsSomewhere : Sheet → Record → Type 0
-ExceedsSomewhere s x = (c : Cell) × Offered (tariffOf x) c × ExceedsIn (figuresOf s) (tariffOf x) c
+abbrev pub ExceedsSomewhere : Sheet → Tariff → Type 0
+ExceedsSomewhere s x = (c : Cell) × Offered x c × ExceedsIn (figuresOf s) x c
 
 -- what answer 11 shows
-pub record Shows (s : Sheet) (x : Record) (c : Cell) (months : List ℕ) (e : ℤ) : Type 0 where
+pub record Shows (s : Sheet) (x : Tariff) (c : Cell) (months : List ℕ) (e : ℤ) : Type 0 where
   -- the first cell that exceeds, in OPEN's order (verdict/proofs/Meaning.antt, `in-order`)
-  pub cell : Offered (tariffOf x) c
-  pub first : (d : Cell) → Offered (tariffOf x) d → Before d c → ExceedsIn (figuresOf s) (tariffOf x) d → ⊥
+  pub cell : Offered x c
+  pub first : (d : Cell) → Offered x d → Before d c → ExceedsIn (figuresOf s) x d → ⊥
   -- "t monthly consumptions of greatest excess, each the smallest at which a month's share of the excess is greatest"
   pub consumptions : MonthsOf s months
   pub greatest : (others : List ℕ) → MonthsOf s others → excessIn s x c others ≤ℤ e
-  pub smallest : (i : ℕ) → i < length months → Greatest (share (numbersIn s x c) (tariffOf x)) monthMost (getD months i 0)
+  pub smallest : (i : ℕ) → i < length months → Greatest (share (numbersWith s x c) x) monthMost (getD months i 0)
   -- "The excess in answer 11 is that of its months in its cell", and above 0
   pub is-excess : e ≡ excessIn s x c months
   pub above : pos 0 <ℤ e
 
 -- "A code with a tariff that is not open is a draft": code k is one, a sheet is in force, and P holds of the two
-abbrev pub DraftWhere : List Call → ℕ → (Sheet → Record → Type 0) → Type 0
+abbrev pub DraftWhere : List Act → ℕ → (Sheet → Tariff → Type 0) → Type 0
 DraftWhere log k P =
-    (s : Sheet) × (x : Record) × (sheetOf log ≡ some s) × (recordOf log k ≡ some x) × (openOf log k ≡ false) × P s x
+    (s : Sheet) × (x : Tariff) × (sheetOf log ≡ some s) × (tariffAt log k ≡ some x) × (openOf log k ≡ false) × P s x
 
 -- the number of a tariff's cells among the 28 that OPEN takes
-abbrev pub cellsOffered : Record → ℕ
-cellsOffered x = count 28 (λ i. offered (tariffOf x) (cellAt i))
+abbrev pub cellsOffered : Tariff → ℕ
+cellsOffered x = count 28 (λ i. offered x (cellAt i))
 
 -- what holds of an OPEN of code k, answered a, where log has the calls that were accepted before it
-pub record OpenAnswer (log : List Call) (k : ℕ) (a : Answer) : Type 0 where
+pub record OpenAnswer (log : List Act) (k : ℕ) (a : Answer) : Type 0 where
   -- it says 11 exactly when the code is a draft and its tariff exceeds, with the sheet in force, in some offered cell
   pub over-exactly : (refusalNumber a ≡ some 11) ↔ DraftWhere log k ExceedsSomewhere
   -- 11 carries a cell, months and an excess, and this is what they are
@@ -80,17 +80,17 @@ pub record Demand3 (calls : List Call) (answers : List Answer) (b : Book) : Type
   -- each call has had the answer that its checks give for what is read from the calls before it
   pub answered : answers ≡ answersAfter [] calls
   -- the open places are exactly the open codes, each with its tariff
-  pub open-places : (k : ℕ) (x : Record)
-      → OpenIn b k x ↔ ((openOf (acceptedOf calls) k ≡ true) × (recordOf (acceptedOf calls) k ≡ some x))
+  pub open-places : (k : ℕ) (x : Tariff)
+      → OpenIn b k x ↔ ((openOf (acceptedOf calls) k ≡ true) × (tariffAt (acceptedOf calls) k ≡ some x))
   -- each open tariff is at or below the maximum of the sheet in force, in every offered cell and for every list of t months
-  pub within : (k : ℕ) (x : Record) → OpenIn b k x
+  pub within : (k : ℕ) (x : Tariff) → OpenIn b k x
       → (s : Sheet) × (sheetOf (acceptedOf calls) ≡ some s)
-      × ((c : Cell) → Offered (tariffOf x) c → (months : List ℕ) → MonthsOf s months → excessIn s x c months ≤ℤ pos 0)
+      × ((c : Cell) → Offered x c → (months : List ℕ) → MonthsOf s months → excessIn s x c months ≤ℤ pos 0)
   -- each OPEN of the list has had, in its place, an answer that says 11 or opens exactly when it should
-  pub each-open : (before after : List Call) (k : ℕ) → calls ≡ before ++ (OPEN k ∷ after)
+  pub each-open : (before after : List Call) (c : Call) (k : ℕ) → calls ≡ before ++ (c ∷ after) → c .act ≡ OPEN k
       → (a : Answer) × (getElem? answers (length before) ≡ some a) × OpenAnswer (acceptedOf before) k a
   -- and so would an OPEN made next
-  pub next-open : (k : ℕ) → OpenAnswer (acceptedOf calls) k (step b (OPEN k) .answer)
+  pub next-open : (c : Call) (k : ℕ) → c .act ≡ OPEN k → OpenAnswer (acceptedOf calls) k (step b c .answer)
 
 -- A list of calls made by the code: each on the book that the one before it returned, with any answers and books that the calls'
 -- own promises allow. `Does` is what SET, PUT, OPEN, CLOSE and DROP each ensure.

@@ -1,16 +1,19 @@
 -- Demand 3's words, "read from the calls alone, never from the book".
--- A log is the list of the accepted calls, the newest first.
+-- A log is the list of what the accepted calls asked, the newest first.
 -- Assumes nothing.
 use mathlib.Core.Bool.{Bool, true, false, cond, _&&_}
 use mathlib.Core.List.{List, [], _∷_}
 use mathlib.Core.Option.{Option, none, some}
 use Prim.Native.Nat.{ℕ}
 use lib.Dec.{eqb}
-use Rattle.book.specs.Calls.{Sheet, Record, Call, SET, PUT, OPEN, CLOSE, DROP, Answer, isAccepted}
-use Rattle.book.specs.Checks.{Readings, answer, complies}
+use Rattle.tariff.specs.declared.Tariff.{Tariff}
+use Rattle.tariff.specs.Tariff.{tariffOf}
+use Rattle.book.specs.Calls.{Sheet, Act, SET, PUT, OPEN, CLOSE, DROP, Call, Answer, isAccepted}
+use Rattle.book.specs.Checks.{Holding, Readings, figuresOf, complies, answer}
+use Rattle.book.specs.Book.{holding}
 
 -- "The sheet in force is that of the last accepted SET, with its period; before the first there is none."
-abbrev pub sheetOf : List Call → Option Sheet
+abbrev pub sheetOf : List Act → Option Sheet
 sheetOf [] = none
 sheetOf (SET s ∷ log) = some s
 sheetOf (PUT j x ∷ log) = sheetOf log
@@ -19,41 +22,51 @@ sheetOf (CLOSE j ∷ log) = sheetOf log
 sheetOf (DROP j ∷ log) = sheetOf log
 
 -- "The tariff of a code is that of its last accepted PUT with no DROP accepted since."
-abbrev pub recordOf : List Call → ℕ → Option Record
-recordOf [] k = none
-recordOf (SET s ∷ log) k = recordOf log k
-recordOf (PUT j x ∷ log) k = cond (eqb j k) (some x) (recordOf log k)
-recordOf (OPEN j ∷ log) k = recordOf log k
-recordOf (CLOSE j ∷ log) k = recordOf log k
-recordOf (DROP j ∷ log) k = cond (eqb j k) none (recordOf log k)
+abbrev pub tariffAt : List Act → ℕ → Option Tariff
+tariffAt [] k = none
+tariffAt (SET s ∷ log) k = tariffAt log k
+tariffAt (PUT j x ∷ log) k = cond (eqb j k) (some (tariffOf x)) (tariffAt log k)
+tariffAt (OPEN j ∷ log) k = tariffAt log k
+tariffAt (CLOSE j ∷ log) k = tariffAt log k
+tariffAt (DROP j ∷ log) k = cond (eqb j k) none (tariffAt log k)
+
+-- a tariff, where there is one, exceeds with a sheet in no cell
+abbrev pub staysOpen : Sheet → Option Tariff → Bool
+staysOpen s none = true
+staysOpen s (some x) = complies (figuresOf s) x
 
 -- "A code is open when an OPEN of it was accepted and, since the last such, no CLOSE, PUT or DROP of it was accepted and no SET
 -- was accepted with whose sheet and period its tariff exceeds in some cell."
-abbrev pub openOf : List Call → ℕ → Bool
+abbrev pub openOf : List Act → ℕ → Bool
 openOf [] k = false
-openOf (SET s ∷ log) k = openOf log k && complies s (recordOf log k)
+openOf (SET s ∷ log) k = openOf log k && staysOpen s (tariffAt log k)
 openOf (PUT j x ∷ log) k = cond (eqb j k) false (openOf log k)
 openOf (OPEN j ∷ log) k = cond (eqb j k) true (openOf log k)
 openOf (CLOSE j ∷ log) k = cond (eqb j k) false (openOf log k)
 openOf (DROP j ∷ log) k = cond (eqb j k) false (openOf log k)
 
-abbrev pub readings : List Call → Readings
-readings log = record { sheet = sheetOf log; tariff = recordOf log; isOpen = openOf log }
+-- what the checks look at: the sheet, and of a code with a tariff that tariff and whether the code is open
+abbrev pub heldAs : Option Tariff → Bool → Option Holding
+heldAs none o = none
+heldAs (some x) o = some (holding x o)
+
+abbrev pub readings : List Act → Readings
+readings log = record { sheet = sheetOf log; held = λ k. heldAs (tariffAt log k) (openOf log k) }
 
 -- "a call is accepted when its checks, for what is so read from the calls before it, give no refusal": the log after one call more,
 -- and after a list of calls more
-abbrev pub noted : List Call → Call → List Call
-noted log c = cond (isAccepted (answer (readings log) c)) (c ∷ log) log
+abbrev pub noted : List Act → Call → List Act
+noted log c = cond (isAccepted (answer (readings log) (c .act))) (c .act ∷ log) log
 
-unfoldable pub logAfter : List Call → List Call → List Call
+unfoldable pub logAfter : List Act → List Call → List Act
 logAfter log [] = log
 logAfter log (c ∷ cs) = logAfter (noted log c) cs
 
 -- the accepted calls of a list
-abbrev pub acceptedOf : List Call → List Call
+abbrev pub acceptedOf : List Call → List Act
 acceptedOf calls = logAfter [] calls
 
 -- "the answer that its checks give for the sheet, tariffs and open codes read in this way from the calls before it", of each call
-unfoldable pub answersAfter : List Call → List Call → List Answer
+unfoldable pub answersAfter : List Act → List Call → List Answer
 answersAfter log [] = []
-answersAfter log (c ∷ cs) = answer (readings log) c ∷ answersAfter (noted log c) cs
+answersAfter log (c ∷ cs) = answer (readings log) (c .act) ∷ answersAfter (noted log c) cs

@@ -6,22 +6,23 @@ ghost use mathlib.Core.List.{List, map};
 ghost use Prim.Native.Nat.{ℕ, _≤_, _<_};
 ghost use lib.ListN.{length, getD};
 ghost use lib.Seq.{sets};
-ghost use Rattle.book.specs.Calls.{Call};
+ghost use Rattle.book.specs.Calls.{Call, call};
 ghost use Rattle.book.specs.Book.{fresh, bookAfter, answersOf, Reachable};
-ghost use Rattle.book.specs.Promises.{answerOf};
+ghost use Rattle.book.specs.Promises.{answerOf, Does};
 ghost use Rattle.history.specs.Claim.{Demand3};
 ghost use Rattle.replay.specs.Encoded.{encode, numberOf};
-ghost use Rattle.replay.specs.Running.{RanAt};
+ghost use Rattle.replay.specs.Running.{endOf, setTo, putTo, codeActOf, actTo, RanAt};
 use book::Book;
 use book::Done;
 use book::Reply;
 use calendar::Period;
+use codes::CodeAct;
 
-// One call of an encoded list, on a book: the number of its answer, the book after it, and where the next call starts.
+// One call of an encoded list, on a book: the number of its answer, the book after it, and where it ends in the list.
 pub struct Ran {
     pub number: u64,
     pub book: Book,
-    pub next: usize,
+    pub end: usize,
 }
 
 // The number of an answer, whatever months stand beside it.
@@ -36,107 +37,104 @@ fn number_of(reply: Reply) -> u64
     }
 }
 
-// A call that was done, with the next at `next`.
-fn done(did: Done, next: usize) -> Ran
-    ensures { λ r. ⌜ (r .number ≡ numberOf (answerOf (did .reply) (did .months))) × (r .book ≡ did .book) × (r .next ≡ next) ⌝ }
+// The number at a place of a list, 0 past its end.
+fn number_at(calls: &[u32], at: usize) -> u32
+    ensures { λ r. ⌜ r ≡ getD (now (calls .entry)) at 0 ⌝ }
 {
+    if at < calls.len() {
+        return calls[at];
+    }
+    0
+}
+
+// Where the call at the start of a list ends, past the list where none stands there.
+fn end_of(calls: &[u32]) -> usize
+    requires { ⌜ 0 < length (now calls) ⌝ }
+    ensures { λ r. ⌜ (r ≡ endOf (now (calls .entry))) × (2 ≤ r) ⌝ }
+{
+    let op = calls[0];
+    if op == 0 {
+        return 5 + number_at(calls, 4) as usize;
+    }
+    if op == 1 {
+        return 3 + number_at(calls, 2) as usize;
+    }
+    if op <= 4 {
+        return 2;
+    }
+    calls.len() + 1
+}
+
+// SET: 0, year, month, t, the count of fields and the fields.
+fn set_to(b: Book, calls: &[u32], end: usize) -> Done
+    requires { ⌜ Reachable b × (5 ≤ end) × (end ≤ length (now calls)) ⌝ }
+    ensures { λ r. ⌜ Does b (call (setTo (now (calls .entry)) end)) r ⌝ }
+{
+    let period = Period {
+        year: calls[1],
+        month: calls[2],
+        months: calls[3],
+    };
+    setting::set(b, &calls[5..end], period)
+}
+
+// PUT: 1, code, the count of numbers and the numbers.
+fn put_to(b: Book, calls: &[u32], end: usize) -> Done
+    requires { ⌜ (3 ≤ end) × (end ≤ length (now calls)) ⌝ }
+    ensures { λ r. ⌜ Does b (call (putTo (now (calls .entry)) end)) r ⌝ }
+{
+    codes::put(b, calls[1], &calls[3..end])
+}
+
+// OPEN, CLOSE or DROP: 2, 3 or 4, and the code.
+fn code_act(op: u32) -> CodeAct
+    ensures { λ r. ⌜ r ≡ codeActOf op ⌝ }
+{
+    if op == 2 {
+        return CodeAct::Open;
+    }
+    if op == 3 {
+        return CodeAct::Close;
+    }
+    CodeAct::Drop
+}
+
+// The call that ends at `end` is made.
+fn made(b: Book, calls: &[u32], end: usize) -> Done
+    requires { ⌜ Reachable b × (end ≡ endOf (now calls)) × (2 ≤ end) × (end ≤ length (now calls)) ⌝ }
+    ensures { λ r. ⌜ Does b (call (actTo (now (calls .entry)) end)) r ⌝ }
+{
+    let op = calls[0];
+    if op == 0 {
+        return set_to(b, calls, end);
+    }
+    if op == 1 {
+        return put_to(b, calls, end);
+    }
+    codes::act_on(b, calls[1], code_act(op))
+}
+
+// The call at the start of a list; where none stands there, nothing is left to run.
+fn one(b: Book, calls: &[u32]) -> Ran
+    requires { ⌜ Reachable b × (0 < length (now calls)) ⌝ }
+    ensures { λ r. ⌜ RanAt b (now (calls .entry)) r ⌝ }
+{
+    let end = end_of(calls);
+    if calls.len() < end {
+        return Ran {
+            number: 0,
+            book: b,
+            end: calls.len(),
+        };
+    }
+    let did = made(b, calls, end);
     let reply = did.reply;
     let book = did.book;
     Ran {
         number: number_of(reply),
         book,
-        next,
+        end,
     }
-}
-
-// No call stands here: nothing is left to run.
-fn ended(b: Book, calls: &[u32]) -> Ran
-    ensures { λ r. ⌜ (r .book ≡ b) × (r .next ≡ length (now (calls .entry))) ⌝ }
-{
-    Ran {
-        number: 0,
-        book: b,
-        next: calls.len(),
-    }
-}
-
-// SET at `i`: 0, year, month, t, the count of fields and the fields.
-fn set_at(b: Book, calls: &[u32], i: usize) -> Ran
-    requires { ⌜ Reachable b × (i < length (now calls)) × (getD (now calls) i 0 ≡ 0) ⌝ }
-    ensures { λ r. ⌜ RanAt b (now (calls .entry)) i r ⌝ }
-{
-    let left = calls.len() - i;
-    if left < 5 {
-        return ended(b, calls);
-    }
-    let count = calls[i + 4] as usize;
-    if left - 5 < count {
-        return ended(b, calls);
-    }
-    let period = Period {
-        year: calls[i + 1],
-        month: calls[i + 2],
-        months: calls[i + 3],
-    };
-    let from = i + 5;
-    let end = from + count;
-    done(setting::set(b, &calls[from..end], period), end)
-}
-
-// PUT at `i`: 1, code, the count of numbers and the numbers.
-fn put_at(b: Book, calls: &[u32], i: usize) -> Ran
-    requires { ⌜ Reachable b × (i < length (now calls)) × (getD (now calls) i 0 ≡ 1) ⌝ }
-    ensures { λ r. ⌜ RanAt b (now (calls .entry)) i r ⌝ }
-{
-    let left = calls.len() - i;
-    if left < 3 {
-        return ended(b, calls);
-    }
-    let count = calls[i + 2] as usize;
-    if left - 3 < count {
-        return ended(b, calls);
-    }
-    let code = calls[i + 1];
-    let from = i + 3;
-    let end = from + count;
-    done(book::put(b, code, &calls[from..end]), end)
-}
-
-// OPEN, CLOSE or DROP at `i`: 2, 3 or 4, and the code.
-fn code_at(b: Book, calls: &[u32], i: usize) -> Ran
-    requires { ⌜ Reachable b × (i < length (now calls)) × (1 < getD (now calls) i 0) ⌝ }
-    ensures { λ r. ⌜ RanAt b (now (calls .entry)) i r ⌝ }
-{
-    if calls.len() - i < 2 {
-        return ended(b, calls);
-    }
-    let op = calls[i];
-    let code = calls[i + 1];
-    if op == 2 {
-        return done(opening::open(b, code), i + 2);
-    }
-    if op == 3 {
-        return done(book::close(b, code), i + 2);
-    }
-    if op == 4 {
-        return done(book::drop(b, code), i + 2);
-    }
-    ended(b, calls)
-}
-
-// The call that stands at `i`.
-fn one(b: Book, calls: &[u32], i: usize) -> Ran
-    requires { ⌜ Reachable b × (i < length (now calls)) ⌝ }
-    ensures { λ r. ⌜ RanAt b (now (calls .entry)) i r ⌝ }
-{
-    let op = calls[i];
-    if op == 0 {
-        return set_at(b, calls, i);
-    }
-    if op == 1 {
-        return put_at(b, calls, i);
-    }
-    code_at(b, calls, i)
 }
 
 // The whole list, each answer's number into its place of `out`.
@@ -145,14 +143,15 @@ fn run_from(b: Book, calls: &[u32], out: &mut [u64]) -> Book
     ensures { λ r. ⌜ ((cs : List Call) → now (calls .entry) ≡ encode cs → length cs ≤ length (now (out .entry)) → (r ≡ bookAfter b cs) × (now (out .exit) ≡ sets (now (out .entry)) 0 (map numberOf (answersOf b cs)))) ⌝ }
 {
     let mut b = b;
-    let mut i: usize = 0;
+    let mut rest = calls;
     let mut n: usize = 0;
-    while i < calls.len() && n < out.len() {
-        let r = one(b, calls, i);
+    while rest.len() > 0 && n < out.len() {
+        let r = one(b, rest);
         let after = r.book;
         b = after;
         out[n] = r.number;
-        i = r.next;
+        let end = r.end;
+        rest = &rest[end..];
         n += 1;
     }
     b

@@ -4,16 +4,16 @@ use mathlib.Core.Path.{_≡_}
 use mathlib.Core.List.{[], _∷_}
 use Rattle.book.specs.declared.Book.{Book}
 use Rattle.book.specs.Calls.{sheetAt, SET, PUT}
-use Rattle.book.specs.Book.{fresh, bookAfter}
 use Rattle.queries.specs.Queries.{refused, benchmarkCharge, maximumCharge, quotation, benchmarkOf, maximumOf, quoteOf}
 use Rattle.unlike.specs.SheetU.{sheetU, periodU, threeTiers, threeRegisters}
+use Rattle.worked.specs.Worked.{bookOf}
 
 -- sheet U, with three tiers in place 1 and three registers in place 4; and the registers without a sheet
 abbrev pub twoTariffs : Book
-twoTariffs = bookAfter fresh (SET (sheetAt sheetU periodU) ∷ PUT 1 (threeTiers 27000) ∷ PUT 4 (threeRegisters 15000) ∷ [])
+twoTariffs = bookOf (SET (sheetAt sheetU periodU) ∷ PUT 1 (threeTiers 27000) ∷ PUT 4 (threeRegisters 15000) ∷ [])
 
 abbrev pub noSheet : Book
-noSheet = bookAfter fresh (PUT 4 (threeRegisters 15000) ∷ [])
+noSheet = bookOf (PUT 4 (threeRegisters 15000) ∷ [])
 
 -- of a book `two` and a book `bare`: proved of the two above (proofs/Queried.antt, `queried`)
 pub record Queried (two bare : Book) : Type 0 where

@@ -1,9 +1,10 @@
--- Worked lists of calls and their answers, read from the calls alone.
+-- Worked lists of what is asked of a fresh book, call by call, and the answers, read from the calls alone.
 -- Assumes nothing.
 use mathlib.Core.Path.{_≡_}
-use mathlib.Core.List.{List, [], _∷_}
+use mathlib.Core.List.{List, [], _∷_, map}
 use lib.IntN.{pos}
-use Rattle.book.specs.Calls.{Sheet, Record, Call, SET, PUT, OPEN, CLOSE, DROP, Answer, accepted, opened, refused, over}
+use Rattle.book.specs.declared.Book.{Book}
+use Rattle.book.specs.Calls.{Sheet, Record, Act, SET, PUT, OPEN, CLOSE, DROP, call, Answer, accepted, opened, refused, over}
 use Rattle.book.specs.Book.{fresh, bookAfter}
 use Rattle.queries.specs.Queries.{quotation, quoteOf}
 use Rattle.reference.specs.SheetS.{sheetS, periodS, flat, tiered}
@@ -35,9 +36,12 @@ high = flat 23961 18000
 abbrev pub steep : Record
 steep = tiered 20000 20000 100 15000
 
--- the answers to a list of calls from a fresh book
-abbrev pub answersTo : List Call → List Answer
-answersTo calls = answersAfter [] calls
+-- the answers to such a list, and the book that it leaves
+abbrev pub answersTo : List Act → List Answer
+answersTo acts = answersAfter [] (map call acts)
+
+abbrev pub bookOf : List Act → Book
+bookOf acts = bookAfter fresh (map call acts)
 
 pub record Worked : Type 0 where
   -- a sheet that makes one of two open tariffs a draft: closing it again is 12, closing the other is accepted
@@ -57,7 +61,7 @@ pub record Worked : Type 0 where
   pub put-over : answersTo (PUT 1 high ∷ OPEN 1 ∷ OPEN 2 ∷ SET quarter ∷ OPEN 1 ∷ PUT 1 low ∷ OPEN 1 ∷ [])
       ≡ accepted ∷ refused 10 ∷ refused 9 ∷ accepted ∷ over firstOther (0 ∷ 0 ∷ 0 ∷ []) (pos 133200000) ∷ accepted ∷ opened 28 ∷ []
   -- QUOTE of the tiered tariff for 300 kWh in one month: its charge is below the maximum
-  pub quoted : quoteOf (bookAfter fresh (SET quarter ∷ PUT 7 steep ∷ [])) 7 0 1 (300 ∷ 0 ∷ 0 ∷ [])
+  pub quoted : quoteOf (bookOf (SET quarter ∷ PUT 7 steep ∷ [])) 7 0 1 (300 ∷ 0 ∷ 0 ∷ [])
       ≡ quotation (record { charge = 24624000000000; maximum = 27970470000000 })
   -- the tiered tariff, refused at 100, 100, 100; then dropped, and the place is empty
   pub tiers : answersTo (SET quarter ∷ PUT 7 steep ∷ OPEN 7 ∷ DROP 7 ∷ OPEN 7 ∷ [])

@@ -31,6 +31,6 @@ progress {b} {l} {i} {input} {before} {r} {after} t room number line = go (ltb (
         let no = t .full (ap (λ x. x .more) (t .left) ∙ ap (λ k. hasFeed (between input k (i .to))) same ∙ line) in
         let yes : hasRoom (r .at) (length before) (r .lines) ≡ true =
         and-both (leb (r .at + 344) (length before)) (ltb (r .lines + 1) (2 ^ 64))
-        (le-leb (r .at + 344) (length before) (omega (arith, room, t .written .ends, n .1)))
+        (le-leb (r .at + 344) (length before) (omega (arith, room, t .puts .ends, n .1)))
         (lt-ltb (r .lines + 1) (2 ^ 64) (omega (arith, number, n .0))) in
         never (cc (no, yes))

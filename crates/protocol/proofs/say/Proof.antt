@@ -3,8 +3,8 @@
 use mathlib.Core.Path.{refl, sym, _∙_}
 use lib.Seq.{length-take-le}
 use borrow.Author.Needs.{needs}
-use Rattle.request.specs.Protocol.{Ready}
-use Rattle.protocol.proofs.Saying.{says-problem, says-step, says-told, count-of}
+use Rattle.request.specs.Requests.{Ready}
+use Rattle.protocol.proofs.Lines.{says-problem, says-step, says-told, count-of}
 use Rattle.protocol.proofs.say.Statement.{statement}
 use Rattle.protocol.proofs.say.Tie as tie
 

@@ -52,16 +52,17 @@ module _ (b : Book) (reach : Reachable b) (l : ℕ) (line numbers : List ℕ) (a
       → requestLine b l (requestOf line) (numbersOf line) ≡ callLine b w (take n numbers)
   line-is q w n asked asks ready = ap (λ x. requestLine b l x (numbersOf line)) (sym asked ∙ asks) ∙ ap (callLine b w) (sym (ready .stand))
 
-  pub says-step : (q : Request) (s : Step) (n : ℕ) → q ≡ requestOf line → q ≡ Asks (Steps s) n → Ready (Steps s) n line numbers → after ≡ before
+  pub says-step : (q : Request) (w : Word) (n : ℕ) (s : Step) → q ≡ requestOf line → q ≡ Asks w n → w ≡ Steps s → Ready w n line numbers → after ≡ before
       → Says (Do s n) b (requestLine b l (requestOf line) (numbersOf line)) at before after numbers
-  says-step q s n asked asks ready same = (line-is q (Steps s) n asked asks ready, ready .within, ready .right, same)
+  says-step q w n s asked asks steps ready same =
+      (rw steps at (line-is q w n asked asks ready), ready .within, rw steps at (ready .right), same)
 
-  pub says-told : (q : Request) (t : Query) (n : ℕ) (told : Telling) (next : ℕ) → q ≡ requestOf line → q ≡ Asks (Tells t) n → Ready (Tells t) n line numbers
+  pub says-told : (q : Request) (w : Word) (n : ℕ) (t : Query) (told : Telling) (next : ℕ) → q ≡ requestOf line → q ≡ Asks w n → w ≡ Tells t → Ready w n line numbers
       → told ≡ toldOf b t (take n numbers) → Puts before at (toldText told) next after
       → Says (Answer next) b (requestLine b l (requestOf line) (numbersOf line)) at before after numbers
-  says-told q t n told next asked asks ready e puts =
+  says-told q w n t told next asked asks tells ready e puts =
       subst (λ x. Says (Answer next) b x at before after numbers)
-      (sym (line-is q (Tells t) n asked asks ready))
+      (sym (rw tells at (line-is q w n asked asks ready)))
       (record { book = refl; reachable = reach; text = rw e at puts })
 
 -- a line that is too long, and one that is not

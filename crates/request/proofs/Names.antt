@@ -39,22 +39,15 @@ tested xs ys false h = go (same xs ys) refl
     go false e = e
     go true e = absurd (let q : false ≡ true = h .1 (equal xs ys e) in let z : _≡_ {A = ℕ} 0 1 = cc in omega arith)
 
--- a word is the name of the call at place i, or else that of one behind it
-module _ (cs : List Word) (i : ℕ) (d : Word) (w name : List ℕ) (t : Bool) (h : i < length cs) (e : name ≡ nameOf (getD cs i d))
-    (test : (t ≡ true → w ≡ name) × (w ≡ name → t ≡ true)) where
-  at-place : named (drop i cs) w ≡ cond t (By (getD cs i d)) (named (drop (i + 1) cs) w)
-  unfolding named
-  at-place =
-      ap (λ xs. named xs w) (drop-cons cs i d h)
-      ∙ ap (λ x. cond x (By (getD cs i d)) (named (drop (suc i) cs) w)) (ap (same w) (sym e) ∙ tested w name t test)
-      ∙ ap (λ k. cond t (By (getD cs i d)) (named (drop k cs) w)) (sym (add-one i))
-
-  pub is-name : t ≡ true → By (getD cs i d) ≡ named (drop i cs) w
-  is-name q = sym (at-place ∙ rw q)
-
-  pub other-name : t ≡ false → named (drop i cs) w ≡ named (drop (i + 1) cs) w
-  other-name q = at-place ∙ rw q
-
-pub no-name : (cs : List Word) (i : ℕ) (w : List ℕ) → length cs ≤ i → None ≡ named (drop i cs) w
+-- of the calls from place i on, the first is tried, and then those behind it
+pub tried : (cs : List Word) (i : ℕ) (d : Word) (w name : List ℕ) (t : Bool) → i < length cs → name ≡ nameOf (getD cs i d)
+    → (t ≡ true → w ≡ name) × (w ≡ name → t ≡ true) → named (drop i cs) w ≡ cond t (By (getD cs i d)) (named (drop (i + 1) cs) w)
 unfolding named
-no-name cs i w h = rw (drop-of-length-le cs {i = i} h) refl
+tried cs i d w name t h e test =
+    ap (λ xs. named xs w) (drop-cons cs i d h)
+    ∙ ap (λ x. cond x (By (getD cs i d)) (named (drop (suc i) cs) w)) (ap (same w) (sym e) ∙ tested w name t test)
+    ∙ ap (λ k. cond t (By (getD cs i d)) (named (drop k cs) w)) (sym (add-one i))
+
+pub all-tried : (cs : List Word) (i : ℕ) (w : List ℕ) → length cs ≤ i → named (drop i cs) w ≡ None
+unfolding named
+all-tried cs i w h = rw (drop-of-length-le cs {i = i} h)

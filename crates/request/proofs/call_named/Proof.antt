@@ -1,8 +1,8 @@
--- `request::call_named` meets its contract.
+-- `request::call_named` meets its contract: the calls are tried in their order.
 -- Assumes nothing.
-use mathlib.Core.Path.{_≡_, refl, sym, _∙_, ap}
-use mathlib.Core.Bool.{true, false}
-use Prim.Native.Nat.{_+_, _-_, _≤_}
+use mathlib.Core.Path.{_≡_, sym, _∙_, ap}
+use mathlib.Core.Bool.{cond}
+use Prim.Native.Nat.{_+_, _-_}
 use native.Mathlib.Omega.{arith}
 use lib.ListN.{length, getD, drop}
 use lib.Seq.{length-take-le}
@@ -11,39 +11,30 @@ use Rattle.request.specs.declared.Step.the-variants.{Set}
 use Rattle.request.specs.declared.Word.the-variants.{Steps}
 use Rattle.request.specs.declared.Named.the-variants.{By}
 use Rattle.request.specs.Requests.{calls, named}
-use Rattle.request.proofs.Names.{is-name, other-name, no-name}
+use Rattle.request.proofs.Names.{tried, all-tried}
 use Rattle.request.proofs.call_named.Statement.{statement}
 use Rattle.request.proofs.call_named.Tie as tie
 
 abbrev Inv-loop : tie.InvT-loop
-Inv-loop word all i₀ i = (i ≤ 8) × (named all word ≡ named (drop i all) word)
+Inv-loop word all i₀ i = named calls word ≡ named (drop i all) word
 
 abbrev μ-loop : tie.MeasureT-loop
-μ-loop word all i₀ i = 8 - i
+μ-loop word all i₀ i = length calls - i
 
 -- the call at place i is tried
-module _ (c : tie.After-same Inv-loop μ-loop) where
-  abbrev p : tie.At-loop Inv-loop μ-loop
-  p = c .before .before .before .before .before .before
-
-  eight : length (p .before .all-calls .result) ≡ 8
-  eight = ap length (p .before .all-calls .ensures)
-
-  found : c .same .result ≡ true → By (getD (p .before .all-calls .result) (p .loop .i) (Steps Set)) ≡ named calls (p .before .before .before .args .word .now)
-  found t =
-      is-name (p .before .all-calls .result) (p .loop .i) (Steps Set) _ _ _ (omega (arith, eight, c .before .before .before .before .before .loop-test .taken)) (c .before .before .before .form-of .ensures .text) (c .same .ensures) t
-      ∙ sym (p .loop .inv .1) ∙ ap (λ cs. named cs (p .before .before .before .args .word .now)) (p .before .all-calls .ensures)
-
-  passed : c .same .result ≡ false → named (p .before .all-calls .result) (p .before .before .before .args .word .now) ≡ named (drop (p .loop .i + 1) (p .before .all-calls .result)) (p .before .before .before .args .word .now)
-  passed t =
-      p .loop .inv .1
-      ∙ other-name (p .before .all-calls .result) (p .loop .i) (Steps Set) _ _ _ (omega (arith, eight, c .before .before .before .before .before .loop-test .taken)) (c .before .before .before .form-of .ensures .text) (c .same .ensures) t
+call-tried : (c : tie.After-same Inv-loop μ-loop)
+    → let p = c .before .before .before .before .before .before in
+    let w = p .before .before .before .args .word .now in
+    named calls w ≡ cond (c .same .result) (By (getD (p .before .all-calls .result) (p .loop .i) (Steps Set))) (named (drop (p .loop .i + 1) (p .before .all-calls .result)) w)
+call-tried c =
+    let p = c .before .before .before .before .before .before in
+    p .loop .inv ∙ tried _ (p .loop .i) (Steps Set) _ _ _ (omega (arith, ap length (p .before .all-calls .ensures), c .before .before .before .before .before .loop-test .taken)) (c .before .before .before .form-of .ensures .text) (c .same .ensures)
 
 all-calls-requires : tie.Need-all-calls-requires Inv-loop μ-loop
 all-calls-requires c κs = search needs
 
 loop-holds : tie.Need-loop-holds Inv-loop μ-loop
-loop-holds c = (omega arith, refl)
+loop-holds c = ap (λ cs. named cs (c .before .before .args .word .now)) (sym (c .all-calls .ensures))
 
 mul-call : tie.Need-mul-call Inv-loop μ-loop
 mul-call c = search needs
@@ -64,7 +55,7 @@ same-requires : tie.Need-same-requires Inv-loop μ-loop
 same-requires c κs = search needs
 
 returns : tie.Need-returns Inv-loop μ-loop
-returns c = found (c .before) (c .if1 .taken)
+returns c = sym (call-tried (c .before) ∙ rw (c .if1 .taken))
 
 add-i : tie.Need-add-i Inv-loop μ-loop
 add-i c = search needs
@@ -73,14 +64,12 @@ loop-less : tie.Need-loop-less Inv-loop μ-loop
 loop-less c = search needs
 
 loop-again : tie.Need-loop-again Inv-loop μ-loop
-loop-again c = (omega (arith, c .before .before .before .before .before .before .loop-test .taken), passed (c .before) (c .if1 .left))
+loop-again c = call-tried (c .before) ∙ rw (c .if1 .left)
 
 returns-2 : tie.Need-returns-2 Inv-loop μ-loop
 returns-2 c =
     let p = c .before in
-    let w = p .before .before .before .args .word .now in
-    no-name (p .before .all-calls .result) (p .loop .i) w (omega (arith, ap length (p .before .all-calls .ensures), c .loop-test .left))
-    ∙ sym (p .loop .inv .1) ∙ ap (λ cs. named cs w) (p .before .all-calls .ensures)
+    sym (p .loop .inv ∙ all-tried _ (p .loop .i) _ (omega (arith, ap length (p .before .all-calls .ensures), c .loop-test .left)))
 
 pub call-named-spec : {M : Type 1} → statement M
 call-named-spec =

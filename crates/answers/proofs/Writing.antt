@@ -6,10 +6,8 @@ use Prim.Native.Nat.{ℕ, suc, _+_, _<_, _≤_}
 use native.Mathlib.Nat.{add-zero, add-suc, suc-add}
 use native.Mathlib.Numerals.{add-one}
 use native.Mathlib.Omega.{arith}
-use lib.ListN.{length, getD, set, take, length-append}
-use lib.Seq.{sets, length-sets, take-suc, length-take-le}
-use Rattle.laws.specs.Notions.{tabulate}
-use Rattle.laws.proofs.Lists.{is-table}
+use lib.ListN.{length, getD, set, take, length-append, drop-of-length-le}
+use lib.Seq.{sets, sets-eq, length-sets, take-suc, length-take-le}
 use Rattle.request.specs.Requests.{bytesOf}
 use Rattle.answers.specs.Writing.{decimal, Puts}
 use Rattle.answers.specs.Answers.{spaced}
@@ -19,6 +17,11 @@ sets-append [] b l i = ap (λ k. sets l k b) (sym (add-zero i))
 sets-append (x ∷ a) b l i =
     sets-append a b (set l i x) (suc i)
     ∙ ap (λ k. sets (sets (set l i x) (suc i) a) k b) (suc-add i (length a) ∙ sym (add-suc i (length a)))
+
+-- up to the end of a buffer
+pub sets-end : (l s : List ℕ) (i : ℕ) → i + length s ≡ length l → sets l i s ≡ take i l ++ s
+sets-end l s i h =
+    sets-eq s l i (omega arith) ∙ ap (λ xs. take i l ++ s ++ xs) (drop-of-length-le l {i = i + length s} (omega arith)) ∙ append-nil (take i l ++ s)
 
 -- writing keeps the length
 pub puts-size : {l l₁ a : List ℕ} {at m : ℕ} → Puts l at a m l₁ → length l₁ ≡ length l
@@ -66,7 +69,3 @@ spaced-more ns i h =
     ∙ spaced-append (take i ns) (n ∷ [])
     ∙ ap (λ t. spaced (take i ns) ++ t) (append-nil (bytesOf " " ++ decimal n))
     ∙ sym (append-assoc (spaced (take i ns)) (bytesOf " ") (decimal n))
-
--- a list is the numbers that it has at each place
-pub listed : (n : ℕ) (xs : List ℕ) → length xs ≡ n → xs ≡ tabulate n (λ i. getD xs i 0)
-listed n xs h = is-table n (λ i. getD xs i 0) xs h (λ i k. refl)

@@ -109,24 +109,17 @@ fn put_refused(out: &mut [u8], at: usize, n: u32) -> usize
 fn over_numbers(region: u32, method: u32, excess: u64, months: [u32; 12]) -> [u64; 16]
     ensures { λ r. ⌜ r ≡ 11 ∷ region ∷ method ∷ excess ∷ months ⌝ }
 {
-    [
-        11,
-        region as u64,
-        method as u64,
-        excess,
-        months[0] as u64,
-        months[1] as u64,
-        months[2] as u64,
-        months[3] as u64,
-        months[4] as u64,
-        months[5] as u64,
-        months[6] as u64,
-        months[7] as u64,
-        months[8] as u64,
-        months[9] as u64,
-        months[10] as u64,
-        months[11] as u64,
-    ]
+    let mut numbers: [u64; 16] = [0; 16];
+    numbers[0] = 11;
+    numbers[1] = region as u64;
+    numbers[2] = method as u64;
+    numbers[3] = excess;
+    let mut i: usize = 0;
+    while i < 12 {
+        numbers[4 + i] = months[i] as u64;
+        i += 1;
+    }
+    numbers
 }
 
 // refused 11 REGION METHOD EXCESS M1 .. Mt

@@ -7,24 +7,24 @@ use Rattle.request.specs.declared.Word.the-variants.{Steps, Tells}
 use Rattle.request.specs.declared.Request.the-variants.{NotANumber, WrongCount}
 use Rattle.request.specs.Requests.{bytesOf}
 use Rattle.answers.specs.Writing.{digitsWithin, decimal}
-use Rattle.answers.specs.Answers.{errorStart, notANumberText, countText, problemText}
+use Rattle.answers.specs.Answers.{problemText}
 
 set : problemText 12 (WrongCount (Steps Set)) ≡ bytesOf "error line 12: set takes at least 3 numbers\n"
-unfolding errorStart countText decimal digitsWithin
+unfolding decimal digitsWithin
 set = refl
 
 put : problemText 12 (WrongCount (Steps Put)) ≡ bytesOf "error line 12: put takes at least 1 number\n"
-unfolding errorStart countText decimal digitsWithin
+unfolding decimal digitsWithin
 put = refl
 
 one : problemText 12 (WrongCount (Steps Open)) ≡ bytesOf "error line 12: open takes 1 number\n"
-unfolding errorStart countText decimal digitsWithin
+unfolding decimal digitsWithin
 one = refl
 
 four : problemText 12 (WrongCount (Tells Benchmark)) ≡ bytesOf "error line 12: benchmark takes 4 numbers\n"
-unfolding errorStart countText decimal digitsWithin
+unfolding decimal digitsWithin
 four = refl
 
 no-number : problemText 12 (NotANumber 2) ≡ bytesOf "error line 12: word 2 is not a number from 0 to 4294967295\n"
-unfolding errorStart notANumberText decimal digitsWithin
+unfolding decimal digitsWithin
 no-number = refl

@@ -49,22 +49,22 @@ toldText (maximumCharge f) = okOrRefused none (f .number ∷ f .denominator ∷ 
 toldText (quotation q) = okOrRefused none (q .charge ∷ q .maximum ∷ [])
 
 -- error line L: WHAT
-unfoldable pub errorStart : ℕ → List ℕ
+abbrev pub errorStart : ℕ → List ℕ
 errorStart l = bytesOf "error line " ++ decimal l ++ bytesOf ": "
 
 abbrev pub tooLong : ℕ → List ℕ
 tooLong l = errorStart l ++ bytesOf "longer than 16384 bytes\n"
 
-unfoldable pub notANumberText : ℕ → List ℕ
+abbrev pub notANumberText : ℕ → List ℕ
 notANumberText k = bytesOf "word " ++ decimal k ++ bytesOf " is not a number from 0 to 4294967295\n"
 
--- how many numbers a call takes
-unfoldable pub countText : ℕ → List ℕ
-countText n = decimal n ++ cond (eqb n 1) (bytesOf " number\n") (bytesOf " numbers\n")
+-- how many numbers a call takes, behind a text
+abbrev pub countText : List ℕ → ℕ → List ℕ
+countText text n = text ++ decimal n ++ cond (eqb n 1) (bytesOf " number\n") (bytesOf " numbers\n")
 
 abbrev pub arityText : Arity → List ℕ
-arityText (Exactly n) = bytesOf " takes " ++ countText n
-arityText (AtLeast n) = bytesOf " takes at least " ++ countText n
+arityText (Exactly n) = countText (bytesOf " takes ") n
+arityText (AtLeast n) = countText (bytesOf " takes at least ") n
 
 -- what is answered, at line l, to a line that is no call
 abbrev pub problemText : ℕ → Request → List ℕ

@@ -174,15 +174,24 @@ pub fn put_told(out: &mut [u8], at: usize, told: Told) -> usize
     }
 }
 
+// A number between two texts.
+fn put_numbered(out: &mut [u8], at: usize, before: &[u8], n: u64, behind: &[u8]) -> usize
+    requires { ⌜ at + length (now before) + 20 + length (now behind) ≤ length (now out) ⌝ }
+    ensures { λ r. ⌜ Puts (now (out .entry)) at (now (before .entry) ++ decimal n ++ now (behind .entry)) r (now (out .exit)) ⌝ }
+    ensures { λ r. ⌜ r ≤ at + length (now (before .entry)) + 20 + length (now (behind .entry)) ⌝ }
+{
+    let behind_text = put_text(out, at, before);
+    let behind_number = put_number(out, behind_text, n);
+    put_text(out, behind_number, behind)
+}
+
 // error line L:
 fn put_error(out: &mut [u8], at: usize, l: u64) -> usize
     requires { ⌜ at + 33 ≤ length (now out) ⌝ }
     ensures { λ r. ⌜ Puts (now (out .entry)) at (errorStart l) r (now (out .exit)) ⌝ }
     ensures { λ r. ⌜ r ≤ at + 33 ⌝ }
 {
-    let behind_error = put_text(out, at, b"error line ");
-    let behind_l = put_number(out, behind_error, l);
-    put_text(out, behind_l, b": ")
+    put_numbered(out, at, b"error line ", l, b": ")
 }
 
 // error line L: longer than 16384 bytes
@@ -199,21 +208,24 @@ fn put_not_a_number(out: &mut [u8], at: usize, k: usize) -> usize
     requires { ⌜ at + 64 ≤ length (now out) ⌝ }
     ensures { λ r. ⌜ Puts (now (out .entry)) at (notANumberText k) r (now (out .exit)) ⌝ }
 {
-    let behind_word = put_text(out, at, b"word ");
-    let behind_k = put_number(out, behind_word, k as u64);
-    put_text(out, behind_k, b" is not a number from 0 to 4294967295\n")
+    put_numbered(
+        out,
+        at,
+        b"word ",
+        k as u64,
+        b" is not a number from 0 to 4294967295\n",
+    )
 }
 
-// N numbers
-fn put_count(out: &mut [u8], at: usize, n: usize) -> usize
-    requires { ⌜ at + 29 ≤ length (now out) ⌝ }
-    ensures { λ r. ⌜ Puts (now (out .entry)) at (countText n) r (now (out .exit)) ⌝ }
+// N numbers, behind a text.
+fn put_count(out: &mut [u8], at: usize, text: &[u8], n: usize) -> usize
+    requires { ⌜ at + length (now text) + 29 ≤ length (now out) ⌝ }
+    ensures { λ r. ⌜ Puts (now (out .entry)) at (countText (now (text .entry)) n) r (now (out .exit)) ⌝ }
 {
-    let next = put_number(out, at, n as u64);
     if n == 1 {
-        return put_text(out, next, b" number\n");
+        return put_numbered(out, at, text, n as u64, b" number\n");
     }
-    put_text(out, next, b" numbers\n")
+    put_numbered(out, at, text, n as u64, b" numbers\n")
 }
 
 // takes N numbers, or at least N
@@ -222,14 +234,8 @@ fn put_arity(out: &mut [u8], at: usize, arity: Arity) -> usize
     ensures { λ r. ⌜ Puts (now (out .entry)) at (arityText arity) r (now (out .exit)) ⌝ }
 {
     match arity {
-        Arity::Exactly(n) => {
-            let next = put_text(out, at, b" takes ");
-            put_count(out, next, n)
-        }
-        Arity::AtLeast(n) => {
-            let next = put_text(out, at, b" takes at least ");
-            put_count(out, next, n)
-        }
+        Arity::Exactly(n) => put_count(out, at, b" takes ", n),
+        Arity::AtLeast(n) => put_count(out, at, b" takes at least ", n),
     }
 }
 

@@ -1,6 +1,5 @@
 -- `answers::put_arity` meets its contract.
 -- Assumes nothing.
-use Rattle.answers.proofs.Writing.{puts-behind}
 use borrow.Author.Needs.{needs}
 use Rattle.answers.proofs.put_arity.Statement.{statement}
 use Rattle.answers.proofs.put_arity.Tie as tie
@@ -8,11 +7,8 @@ use Rattle.answers.proofs.put_arity.Tie as tie
 enum-known-arity : tie.Need-enum-known-arity
 enum-known-arity c = search needs
 
-slice-aggregate-put-text : tie.Need-slice-aggregate-put-text
-slice-aggregate-put-text c = search needs
-
-put-text-requires : tie.Need-put-text-requires
-put-text-requires c κs = search needs
+slice-aggregate-put-count : tie.Need-slice-aggregate-put-count
+slice-aggregate-put-count c = search needs
 
 put-count-requires : tie.Need-put-count-requires
 put-count-requires c κs = search needs
@@ -20,11 +16,8 @@ put-count-requires c κs = search needs
 enum-known-arity-2 : tie.Need-enum-known-arity-2
 enum-known-arity-2 c = search needs
 
-slice-aggregate-put-text-2 : tie.Need-slice-aggregate-put-text-2
-slice-aggregate-put-text-2 c = search needs
-
-put-text-requires-2 : tie.Need-put-text-requires-2
-put-text-requires-2 c κs = search needs
+slice-aggregate-put-count-2 : tie.Need-slice-aggregate-put-count-2
+slice-aggregate-put-count-2 c = search needs
 
 put-count-requires-2 : tie.Need-put-count-requires-2
 put-count-requires-2 c κs = search needs
@@ -33,25 +26,23 @@ same-length : tie.Need-same-length
 same-length c = search needs
 
 returns : tie.Need-returns
-returns c = rw (c .before .before .before .before .before .before .before .before .before .before .arity .given .1) (puts-behind (c .before .before .before .before .before .before .put-text .ensures) (c .before .before .put-count .ensures))
+returns c = rw (c .before .before .before .before .before .before .arity .given .1) (c .before .before .put-count .ensures)
 
 same-length-2 : tie.Need-same-length-2
 same-length-2 c = search needs
 
 returns-2 : tie.Need-returns-2
-returns-2 c = rw (c .before .before .before .before .before .before .before .before .before .before .arity2 .given .1) (puts-behind (c .before .before .before .before .before .before .put-text2 .ensures) (c .before .before .put-count2 .ensures))
+returns-2 c = rw (c .before .before .before .before .before .before .arity2 .given .1) (c .before .before .put-count2 .ensures)
 
 pub put-arity-spec : {M : Type 1} → statement M
 put-arity-spec =
     tie.close
     (tie.spec
     enum-known-arity
-    slice-aggregate-put-text
-    put-text-requires
+    slice-aggregate-put-count
     put-count-requires
     enum-known-arity-2
-    slice-aggregate-put-text-2
-    put-text-requires-2
+    slice-aggregate-put-count-2
     put-count-requires-2
     same-length
     returns

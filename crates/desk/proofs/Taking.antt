@@ -17,9 +17,9 @@ use Rattle.bytes.specs.Bytes.{indexOf, indexAfter}
 use Rattle.book.specs.declared.Book.{Book}
 use Rattle.book.specs.Book.{Reachable}
 use Rattle.book.proofs.Places.{never}
-use Rattle.answers.specs.Writing.{Puts}
+use Rattle.answers.specs.Writing.{Puts, answerRoom}
 use Rattle.answers.proofs.Writing.{puts-behind, puts-none}
-use Rattle.protocol.specs.Lines.{lineAt, between}
+use Rattle.protocol.specs.Lines.{longestLine, lineAt, between}
 use Rattle.protocol.proofs.Parts.{length-between}
 use Rattle.desk.specs.declared.Input.{Input}
 use Rattle.desk.specs.declared.Desk.{Desk}
@@ -121,9 +121,9 @@ line-more xs start from to end h k l e =
     ∙ ap (λ ys. between xs start from ++ between xs from end ++ ys) (between-one xs end (omega arith) ∙ ap (λ b. b ∷ []) (feed-at xs from to end h l e))
 
 -- room for an answer and a number for its line
-pub room-yes : (at size l : ℕ) → hasRoom at size l ≡ true → (at + 344 ≤ size) × (l + 1 < 2 ^ 64)
+pub room-yes : (at size l : ℕ) → hasRoom at size l ≡ true → (at + answerRoom ≤ size) × (l + 1 < 2 ^ 64)
 room-yes at size l e =
-    (leb-true (at + 344) size (and-left _ (ltb (l + 1) (2 ^ 64)) e), ltb-true (l + 1) (2 ^ 64) (and-right (leb (at + 344) size) _ e))
+    (leb-true (at + answerRoom) size (and-left _ (ltb (l + 1) (2 ^ 64)) e), ltb-true (l + 1) (2 ^ 64) (and-right (leb (at + answerRoom) size) _ e))
 
 -- what the loop of `take_lines` has done so far
 pub record Sofar (b : Book) (lines : ℕ) (i : Input) (input before after : List ℕ) (book : Book) (from : ℕ) (cut : Bool) (l at end : ℕ) : Type 0 where
@@ -218,12 +218,12 @@ takes-none none-taken h = (refl, refl)
 takes-none (line-taken {bytes = bytes} line t k) h = never (cc (sym h ∙ feed-last (bytes ++ line)))
 
 -- what is kept of an unfinished line is no longer than a line may be
-pub kept-short : (i : Input) (before : List ℕ) (r : Input) (after : List ℕ) → Keeps i before r after → r .to ≤ 16384
+pub kept-short : (i : Input) (before : List ℕ) (r : Input) (after : List ℕ) → Keeps i before r after → r .to ≤ longestLine
 kept-short i before r after k = go (r .cut) (k .long) (ap (λ x. x .to) (k .input))
   where
-    go : (t : Bool) → t ≡ (i .cut || ltb 16384 (i .to - i .from)) → r .to ≡ cond t 0 (i .to - i .from) → r .to ≤ 16384
+    go : (t : Bool) → t ≡ (i .cut || ltb longestLine (i .to - i .from)) → r .to ≡ cond t 0 (i .to - i .from) → r .to ≤ longestLine
     go true e f = omega arith
-    go false e f = omega (arith, ltb-false 16384 (i .to - i .from) (or-right (i .cut) (ltb 16384 (i .to - i .from)) (sym e)))
+    go false e f = omega (arith, ltb-false longestLine (i .to - i .from) (or-right (i .cut) (ltb longestLine (i .to - i .from)) (sym e)))
 
 -- whether anything is left
 pub left-none : (i : Input) → i .cut ≡ false → i .to ≡ 0 → isLeft i ≡ false

@@ -17,7 +17,7 @@ use borrow.Author.Tests.{ltb-true, ltb-false, lt-ltb}
 use Rattle.book.specs.declared.Book.{Book}
 use Rattle.book.specs.Book.{fresh}
 use Rattle.book.proofs.Places.{never}
-use Rattle.protocol.specs.Lines.{lineAt, between}
+use Rattle.protocol.specs.Lines.{longestLine, lineAt, between}
 use Rattle.protocol.proofs.Parts.{length-between}
 use Rattle.desk.specs.declared.Input.{Input}
 use Rattle.desk.specs.declared.Desk.{Desk}
@@ -34,8 +34,8 @@ dropped-feed false dropped h = ap hasFeed h
 line-as : (b : Book) (l : ℕ) (cut : Bool) (dropped line : List ℕ) → Dropped cut dropped → lineAt b l cut line ≡ lineAt b l false (dropped ++ line)
 unfolding lineAt
 line-as b l true dropped line h =
-    let k : 16384 < length (dropped ++ line) = omega (arith, h .0, length-append dropped line) in
-    rw (lt-ltb 16384 (length (dropped ++ line)) k) refl
+    let k : longestLine < length (dropped ++ line) = omega (arith, h .0, length-append dropped line) in
+    rw (lt-ltb longestLine (length (dropped ++ line)) k) refl
 line-as b l false dropped line h = ap (λ ys. lineAt b l false (ys ++ line)) (sym h)
 
 -- whole lines, or nothing: then no start of a line was dropped either
@@ -104,12 +104,12 @@ module _ (b : Book) (l : ℕ) (text : List ℕ) (i : Input) (before : List ℕ) 
   abbrev had : List ℕ
   had = between before (i .from) (i .to)
 
-  long : (c : Bool) (dropped : List ℕ) → Dropped c dropped → true ≡ (c || ltb 16384 (i .to - i .from)) → 16384 < length (dropped ++ had)
+  long : (c : Bool) (dropped : List ℕ) → Dropped c dropped → true ≡ (c || ltb longestLine (i .to - i .from)) → longestLine < length (dropped ++ had)
   long true dropped h e = omega (arith, h .0, length-append dropped had)
   long false dropped h e =
-      omega (arith, ltb-true 16384 (i .to - i .from) (sym e), length-append dropped had, length-between before (i .from) (i .to) fits)
+      omega (arith, ltb-true longestLine (i .to - i .from) (sym e), length-append dropped had, length-between before (i .from) (i .to) fits)
 
-  not-cut : (c : Bool) (dropped : List ℕ) → Dropped c dropped → false ≡ (c || ltb 16384 (i .to - i .from)) → dropped ≡ []
+  not-cut : (c : Bool) (dropped : List ℕ) → Dropped c dropped → false ≡ (c || ltb longestLine (i .to - i .from)) → dropped ≡ []
   not-cut true dropped h e = never (cc)
   not-cut false dropped h e = h
 
@@ -117,7 +117,7 @@ module _ (b : Book) (l : ℕ) (text : List ℕ) (i : Input) (before : List ℕ) 
       → (done′ : List ℕ) × Joined done′ b l (kept .cut) text × (done ++ had ≡ done′ ++ take (kept .to) front)
   kept-joins done j h = go (kept .cut) (k .long) (k .bytes)
     where
-      go : (t : Bool) → t ≡ (i .cut || ltb 16384 (i .to - i .from)) → take (kept .to) front ≡ cond t [] had
+      go : (t : Bool) → t ≡ (i .cut || ltb longestLine (i .to - i .from)) → take (kept .to) front ≡ cond t [] had
           → (done′ : List ℕ) × Joined done′ b l t text × (done ++ had ≡ done′ ++ take (kept .to) front)
       go true e f = (
         done ++ had,

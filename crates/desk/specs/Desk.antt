@@ -13,7 +13,7 @@ use Rattle.libc.specs.Io.{Moved}
 use Rattle.book.specs.declared.Book.{Book}
 use Rattle.book.specs.Book.{fresh, Reachable}
 use Rattle.answers.specs.Writing.{Puts, answerRoom}
-use Rattle.protocol.specs.Lines.{lineAt, between}
+use Rattle.protocol.specs.Lines.{longestLine, lineAt, between}
 use Rattle.desk.specs.declared.Input.{Input}
 use Rattle.desk.specs.declared.Desk.{Desk}
 
@@ -62,7 +62,7 @@ atFront i to cut = record { from = 0; to = to; cut = cut; more = i .more; ended 
 
 -- the start of an unfinished line is kept at the front, or dropped where it is too long
 pub record Keeps (i : Input) (before : List ℕ) (r : Input) (after : List ℕ) : Type 0 where
-  pub long : r .cut ≡ (i .cut || ltb 16384 (i .to - i .from))
+  pub long : r .cut ≡ (i .cut || ltb longestLine (i .to - i .from))
   pub input : r ≡ atFront i (cond (r .cut) 0 (i .to - i .from)) (r .cut)
   pub bytes : take (r .to) after ≡ cond (r .cut) [] (between before (i .from) (i .to))
   pub size : length after ≡ length before
@@ -137,7 +137,7 @@ pub record Steady (d : Desk) (input numbers out : ℕ) : Type 0 where
   pub holds : Holds (d .input) input
   pub waiting : d .at ≤ out
   pub input-size : input ≡ 65536
-  pub numbers-size : numbers ≡ 16384
+  pub numbers-size : numbers ≡ longestLine
   pub out-size : out ≡ 65536
 
 -- at the start the book is fresh, no line is taken, no answer waits, nothing is read, and the desk goes on

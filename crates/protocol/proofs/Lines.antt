@@ -27,7 +27,7 @@ use Rattle.request.specs.Requests.{requestOf, numbersOf, Ready}
 use Rattle.answers.specs.Writing.{Puts}
 use Rattle.answers.specs.Answers.{answerText, toldText, problemText}
 use Rattle.protocol.specs.declared.Said.the-variants.{Answer, Do}
-use Rattle.protocol.specs.Lines.{toldOf, stepLine, callLine, problemLine, requestLine, longLine, lineAt}
+use Rattle.protocol.specs.Lines.{toldOf, stepLine, callLine, problemLine, requestLine, longestLine, longLine, lineAt}
 use Rattle.protocol.specs.Promises.{Answered, Says}
 
 -- a request that is no call
@@ -71,14 +71,14 @@ module _ (b : Book) (l : ℕ) (cut : Bool) (bytes : List ℕ) where
   unfolding lineAt
   cut-line e = rw e refl
 
-  pub long-line : cut ≡ false → 16384 < length bytes → lineAt b l cut bytes ≡ longLine b l
+  pub long-line : cut ≡ false → longestLine < length bytes → lineAt b l cut bytes ≡ longLine b l
   unfolding lineAt
-  long-line e h = rw (e, lt-ltb 16384 (length bytes) h) refl
+  long-line e h = rw (e, lt-ltb longestLine (length bytes) h) refl
 
-  pub short-line : cut ≡ false → length bytes ≤ 16384
+  pub short-line : cut ≡ false → length bytes ≤ longestLine
       → lineAt b l cut bytes ≡ requestLine b l (requestOf (withoutReturn bytes)) (numbersOf (withoutReturn bytes))
   unfolding lineAt
-  short-line e h = rw (e, le-ltb 16384 (length bytes) h) refl
+  short-line e h = rw (e, le-ltb longestLine (length bytes) h) refl
 
 -- a step that was done is what its line asks for
 pub step-done : (b : Book) (c : call.Call) (did : Done) (before : List ℕ) (at next : ℕ) (after : List ℕ) → Does b c did → Reachable b

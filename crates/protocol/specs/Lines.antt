@@ -67,13 +67,17 @@ requestLine b l Unknown ns = problemLine b l Unknown
 requestLine b l (NotANumber k) ns = problemLine b l (NotANumber k)
 requestLine b l (WrongCount w) ns = problemLine b l (WrongCount w)
 
--- line l without its line feed; `cut`: its start was dropped, since it has more than 16,384 bytes
+-- how many bytes a line may have, its line feed not counted
+abbrev pub longestLine : ℕ
+longestLine = 16384
+
+-- line l without its line feed; `cut`: its start was dropped, since it is too long
 abbrev pub longLine : Book → ℕ → Outcome
 longLine b l = record { book = b; text = tooLong l }
 
 unfoldable pub lineAt : Book → ℕ → (cut : Bool) → List ℕ → Outcome
 lineAt b l cut bytes =
-    cond (cut || ltb 16384 (length bytes)) (longLine b l)
+    cond (cut || ltb longestLine (length bytes)) (longLine b l)
     (requestLine b l (requestOf (withoutReturn bytes)) (numbersOf (withoutReturn bytes)))
 
 -- the bytes of the input from one place to another

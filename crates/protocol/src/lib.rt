@@ -11,7 +11,7 @@ ghost use Rattle.queries.specs.Queries.{tellingOf};
 ghost use Rattle.request.specs.Requests.{arity, RightCount, requestOf, numbersOf};
 ghost use Rattle.request.specs.declared.Word.the-variants.{Steps, Tells};
 ghost use Rattle.answers.specs.Writing.{answerRoom};
-ghost use Rattle.protocol.specs.Lines.{stepOf, toldOf, stepLine, requestLine, between, lineAt};
+ghost use Rattle.protocol.specs.Lines.{stepOf, toldOf, stepLine, requestLine, between, longestLine, lineAt};
 ghost use Rattle.protocol.specs.Promises.{Answered, Says};
 use book::Book;
 use book::Done;
@@ -91,7 +91,7 @@ pub fn say_line(
     out: &mut [u8],
     at: usize,
 ) -> Said
-    requires { ⌜ Reachable b × (from ≤ to) × (to ≤ length (now input)) × (16384 ≤ length (now numbers)) × (at + answerRoom ≤ length (now out)) ⌝ }
+    requires { ⌜ Reachable b × (from ≤ to) × (to ≤ length (now input)) × (longestLine ≤ length (now numbers)) × (at + answerRoom ≤ length (now out)) ⌝ }
     ensures { λ r. ⌜ Says r b (lineAt b l cut (between (now (input .entry)) from to)) at (now (out .entry)) (now (out .exit)) (now (numbers .exit)) ⌝ }
 {
     if cut {

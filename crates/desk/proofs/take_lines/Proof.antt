@@ -8,6 +8,7 @@ use native.Mathlib.Omega.{arith}
 use lib.ListN.{length}
 use lib.Seq.{length-take-le}
 use borrow.Author.Tests.{ltb-true}
+use Rattle.answers.specs.Writing.{answerRoom}
 use Rattle.answers.proofs.Writing.{puts-size}
 use Rattle.protocol.specs.declared.Said.the-variants.{Do}
 use Rattle.protocol.specs.Lines.{Outcome, lineAt, between}
@@ -48,7 +49,7 @@ line-done c =
     (c .match .came)
 
 -- room for its answer
-room-for : (c : tie.After-room Inv-loop μ-loop) → c .room .result ≡ true → (c .before .before .loop .at + 344 ≤ length (c .before .before .loop .out)) × (c .before .before .loop .l + 1 < 2 ^ 64)
+room-for : (c : tie.After-room Inv-loop μ-loop) → c .room .result ≡ true → (c .before .before .loop .at + answerRoom ≤ length (c .before .before .loop .out)) × (c .before .before .loop .l + 1 < 2 ^ 64)
 room-for c e = room-yes _ _ _ (sym (c .room .ensures) ∙ e)
 
 line-end-requires : tie.Need-line-end-requires Inv-loop μ-loop

@@ -6,12 +6,10 @@ use Prim.Native.Nat.{ℕ, suc, _+_, _<_, _≤_}
 use native.Mathlib.Nat.{add-zero, add-suc, suc-add}
 use native.Mathlib.Numerals.{add-one}
 use native.Mathlib.Omega.{arith}
-use lib.ListN.{length, getD, set, take, length-append}
-use lib.Seq.{sets, length-sets, take-suc, length-take-le}
-use Rattle.laws.specs.Notions.{tabulate}
-use Rattle.laws.proofs.Lists.{is-table}
-use Rattle.request.specs.Protocol.{bytesOf}
-use Rattle.answers.specs.Writing.{decimal, Written}
+use lib.ListN.{length, getD, set, take, length-append, drop-of-length-le}
+use lib.Seq.{sets, sets-eq, length-sets, take-suc, length-take-le}
+use Rattle.request.specs.Requests.{bytesOf}
+use Rattle.answers.specs.Writing.{decimal, Puts}
 use Rattle.answers.specs.Answers.{spaced}
 
 sets-append : (a b l : List ℕ) (i : ℕ) → sets l i (a ++ b) ≡ sets (sets l i a) (i + length a) b
@@ -20,27 +18,32 @@ sets-append (x ∷ a) b l i =
     sets-append a b (set l i x) (suc i)
     ∙ ap (λ k. sets (sets (set l i x) (suc i) a) k b) (suc-add i (length a) ∙ sym (add-suc i (length a)))
 
+-- up to the end of a buffer
+pub sets-end : (l s : List ℕ) (i : ℕ) → i + length s ≡ length l → sets l i s ≡ take i l ++ s
+sets-end l s i h =
+    sets-eq s l i (omega arith) ∙ ap (λ xs. take i l ++ s ++ xs) (drop-of-length-le l {i = i + length s} (omega arith)) ∙ append-nil (take i l ++ s)
+
 -- writing keeps the length
-pub kept : {l l₁ a : List ℕ} {at m : ℕ} → Written l at a m l₁ → length l₁ ≡ length l
-kept {l} {l₁} {a} {at} p = ap length (p .holds) ∙ length-sets l at a
+pub puts-size : {l l₁ a : List ℕ} {at m : ℕ} → Puts l at a m l₁ → length l₁ ≡ length l
+puts-size {l} {l₁} {a} {at} p = ap length (p .holds) ∙ length-sets l at a
 
 -- a text behind a text
-pub behind : {l l₁ l₂ a b : List ℕ} {at m n : ℕ} → Written l at a m l₁ → Written l₁ m b n l₂ → Written l at (a ++ b) n l₂
-behind {l} {l₁} {l₂} {a} {b} {at} {m} {n} p q =
+pub puts-behind : {l l₁ l₂ a b : List ℕ} {at m n : ℕ} → Puts l at a m l₁ → Puts l₁ m b n l₂ → Puts l at (a ++ b) n l₂
+puts-behind {l} {l₁} {l₂} {a} {b} {at} {m} {n} p q =
     record {
       ends = omega (arith, p .ends, q .ends, length-append a b);
-      within = omega (arith, q .within, kept p);
+      within = omega (arith, q .within, puts-size p);
       holds = q .holds ∙ ap (λ k. sets k m b) (p .holds) ∙ ap (λ k. sets (sets l at a) k b) (p .ends) ∙ sym (sets-append a b l at);
     }
 
 -- a text of no bytes
-pub nothing : (l : List ℕ) (at : ℕ) → at ≤ length l → Written l at [] at l
-nothing l at h = record { ends = sym (add-zero at); within = h; holds = refl }
+pub puts-none : (l : List ℕ) (at : ℕ) → at ≤ length l → Puts l at [] at l
+puts-none l at h = record { ends = sym (add-zero at); within = h; holds = refl }
 
 -- a byte behind a text
-pub byte-behind : {l l₁ a : List ℕ} {at m : ℕ} (x : ℕ) → m < length l → Written l at a m l₁
-    → Written l at (a ++ (x ∷ [])) (m + 1) (set l₁ m x)
-byte-behind {l} {l₁} {a} {at} {m} x h p = behind p (record { ends = refl; within = omega (arith, kept p); holds = refl })
+pub puts-byte : {l l₁ a : List ℕ} {at m : ℕ} (x : ℕ) → m < length l → Puts l at a m l₁
+    → Puts l at (a ++ (x ∷ [])) (m + 1) (set l₁ m x)
+puts-byte {l} {l₁} {a} {at} {m} x h p = puts-behind p (record { ends = refl; within = omega (arith, puts-size p); holds = refl })
 
 -- a turn of a loop that copies
 pub copy-more : (l s : List ℕ) (at i : ℕ) → i < length s → set (sets l at (take i s)) (at + i) (getD s i 0) ≡ sets l at (take (i + 1) s)
@@ -66,11 +69,3 @@ spaced-more ns i h =
     ∙ spaced-append (take i ns) (n ∷ [])
     ∙ ap (λ t. spaced (take i ns) ++ t) (append-nil (bytesOf " " ++ decimal n))
     ∙ sym (append-assoc (spaced (take i ns)) (bytesOf " ") (decimal n))
-
--- a message in parts, written with its neighbours
-pub regrouped : (e l c w k t n : List ℕ) → (e ++ l ++ (c ++ w)) ++ k ++ (t ++ n) ≡ e ++ l ++ (c ++ (w ++ k ++ t) ++ n)
-regrouped e l c w k t n = simp append-assoc
-
--- a list is the numbers that it has at each place
-pub listed : (n : ℕ) (xs : List ℕ) → length xs ≡ n → xs ≡ tabulate n (λ i. getD xs i 0)
-listed n xs h = is-table n (λ i. getD xs i 0) xs h (λ i k. refl)

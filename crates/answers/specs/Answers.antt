@@ -1,18 +1,19 @@
 -- The desk's answer lines, word for word, each with its line feed.
 -- Assumes nothing.
+use mathlib.Core.Bool.{cond}
 use mathlib.Core.List.{List, [], _∷_, _++_}
 use mathlib.Core.Option.{Option, none, some}
 use Prim.Native.Nat.{ℕ}
-use Prim.Native.String.{String}
+use lib.Dec.{eqb}
 use lib.IntN.{natAbs}
 use Rattle.book.specs.Calls.{Answer, accepted, opened, refused, over, refusalNumber}
 use Rattle.queries.specs.Queries.{Telling, benchmarkCharge, maximumCharge, quotation}
 use Rattle.queries.specs.Queries as telling
-use Rattle.request.specs.declared.Word.{Word}
-use Rattle.request.specs.declared.Word.the-variants.{Set, Put, Open, Close, Drop, Benchmark, Maximum, Quote}
+use Rattle.request.specs.declared.Arity.{Arity}
+use Rattle.request.specs.declared.Arity.the-variants.{Exactly, AtLeast}
 use Rattle.request.specs.declared.Request.{Request}
-use Rattle.request.specs.declared.Request.the-variants.{Nothing, Call, Unknown, NotANumber, WrongCount}
-use Rattle.request.specs.Protocol.{bytesOf}
+use Rattle.request.specs.declared.Request.the-variants.{Nothing, Asks, Unknown, NotANumber, WrongCount}
+use Rattle.request.specs.Requests.{bytesOf, nameOf, arity}
 use Rattle.answers.specs.Writing.{decimal}
 
 -- numbers, each behind a space
@@ -20,14 +21,14 @@ unfoldable pub spaced : List ℕ → List ℕ
 spaced [] = []
 spaced (n ∷ ns) = bytesOf " " ++ decimal n ++ spaced ns
 
--- a line: a word, its numbers and a line feed
-unfoldable pub line : List ℕ → List ℕ → List ℕ
-line word numbers = word ++ spaced numbers ++ bytesOf "\n"
+-- a whole answer: a word, its numbers and a line feed
+unfoldable pub answerLine : List ℕ → List ℕ → List ℕ
+answerLine word numbers = word ++ spaced numbers ++ bytesOf "\n"
 
 -- ok and its numbers; or refused, the refusal's number and those that it carries
 abbrev pub okOrRefused : (refusal : Option ℕ) (numbers : List ℕ) → List ℕ
-okOrRefused none numbers = line (bytesOf "ok") numbers
-okOrRefused (some n) numbers = line (bytesOf "refused") (n ∷ numbers)
+okOrRefused none numbers = answerLine (bytesOf "ok") numbers
+okOrRefused (some n) numbers = answerLine (bytesOf "refused") (n ∷ numbers)
 
 -- what an answer carries beside a refusal's number
 abbrev pub carried : Answer → List ℕ
@@ -48,26 +49,27 @@ toldText (maximumCharge f) = okOrRefused none (f .number ∷ f .denominator ∷ 
 toldText (quotation q) = okOrRefused none (q .charge ∷ q .maximum ∷ [])
 
 -- error line L: WHAT
-unfoldable pub errorText : ℕ → List ℕ → List ℕ
-errorText l what = bytesOf "error line " ++ decimal l ++ (bytesOf ": " ++ what ++ bytesOf "\n")
+abbrev pub errorStart : ℕ → List ℕ
+errorStart l = bytesOf "error line " ++ decimal l ++ bytesOf ": "
 
 abbrev pub tooLong : ℕ → List ℕ
-tooLong l = errorText l (bytesOf "longer than 16384 bytes")
+tooLong l = errorStart l ++ bytesOf "longer than 16384 bytes\n"
 
-abbrev pub ruleOf : Word → String
-ruleOf Set = "set takes at least 3 numbers"
-ruleOf Put = "put takes at least 1 number"
-ruleOf Open = "open takes 1 number"
-ruleOf Close = "close takes 1 number"
-ruleOf Drop = "drop takes 1 number"
-ruleOf Benchmark = "benchmark takes 4 numbers"
-ruleOf Maximum = "maximum takes 4 numbers"
-ruleOf Quote = "quote takes at least 3 numbers"
+abbrev pub notANumberText : ℕ → List ℕ
+notANumberText k = bytesOf "word " ++ decimal k ++ bytesOf " is not a number from 0 to 4294967295\n"
+
+-- how many numbers a call takes, behind a text
+abbrev pub countText : List ℕ → ℕ → List ℕ
+countText text n = text ++ decimal n ++ cond (eqb n 1) (bytesOf " number\n") (bytesOf " numbers\n")
+
+abbrev pub arityText : Arity → List ℕ
+arityText (Exactly n) = countText (bytesOf " takes ") n
+arityText (AtLeast n) = countText (bytesOf " takes at least ") n
 
 -- what is answered, at line l, to a line that is no call
 abbrev pub problemText : ℕ → Request → List ℕ
 problemText l Nothing = []
-problemText l (Call w n) = []
-problemText l Unknown = errorText l (bytesOf "unknown call")
-problemText l (NotANumber k) = errorText l (bytesOf "word " ++ decimal k ++ bytesOf " is not a number from 0 to 4294967295")
-problemText l (WrongCount w) = errorText l (bytesOf (ruleOf w))
+problemText l (Asks w n) = []
+problemText l Unknown = errorStart l ++ bytesOf "unknown call\n"
+problemText l (NotANumber k) = errorStart l ++ notANumberText k
+problemText l (WrongCount w) = errorStart l ++ (nameOf w ++ arityText (arity w))

@@ -22,9 +22,19 @@ digitsWithin (suc k) n = let tenth = digitsWithin k (n / 10) in withLast (ltb n 
 unfoldable pub decimal : ℕ → List ℕ
 decimal n = digitsWithin (suc n) n
 
--- `text` was written into a buffer from place `at` on: `next` is the place behind it, the whole text is within the buffer, and every
+-- `text` was put into a buffer from place `at` on: `next` is the place behind it, the whole text is within the buffer, and every
 -- other byte is as before
-pub record Written (before : List ℕ) (at : ℕ) (text : List ℕ) (next : ℕ) (after : List ℕ) : Type 0 where
+pub record Puts (before : List ℕ) (at : ℕ) (text : List ℕ) (next : ℕ) (after : List ℕ) : Type 0 where
   pub ends : next ≡ at + length text
   pub within : next ≤ length before
   pub holds : after ≡ sets before at text
+
+-- room enough for any answer, for any error, and for any answer but refusal 11
+abbrev pub answerRoom : ℕ
+answerRoom = 344
+
+abbrev pub errorRoom : ℕ
+errorRoom = 97
+
+abbrev pub shortRoom : ℕ
+shortRoom = 50

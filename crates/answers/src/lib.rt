@@ -1,6 +1,6 @@
 // The desk's answers as text in a buffer that the caller lends.
 // Promise: each function writes, from place `at` on, exactly the text that specs/Answers.antt defines, leaves every other byte as it was,
-// and returns the place behind the text (`Written` of specs/Writing.antt). Each requires room for the longest text that it may write.
+// and returns the place behind the text (`Puts` of specs/Writing.antt). Each requires room for the longest text that it may write.
 ghost use mathlib.Core.Path.{_≡_};
 ghost use mathlib.Core.List.{[], _∷_, _++_};
 ghost use Prim.Native.Nat.{_+_, _*_, _≤_};
@@ -10,18 +10,19 @@ ghost use Rattle.verdict.specs.Cells.{cell};
 ghost use Rattle.book.specs.Calls.{over};
 ghost use Rattle.book.specs.Promises.{answerOf};
 ghost use Rattle.queries.specs.Queries.{tellingOf};
-ghost use Rattle.request.specs.Protocol.{bytesOf};
-ghost use Rattle.answers.specs.Writing.{decimal, Written};
-ghost use Rattle.answers.specs.Answers.{spaced, line, answerText, toldText, tooLong, problemText};
+ghost use Rattle.request.specs.Requests.{bytesOf, nameOf, arity};
+ghost use Rattle.answers.specs.Writing.{decimal, Puts, answerRoom, errorRoom, shortRoom};
+ghost use Rattle.answers.specs.Answers.{spaced, answerLine, answerText, toldText, errorStart, tooLong, notANumberText, countText, arityText, problemText};
 use book::Reply;
 use queries::Told;
+use request::Arity;
 use request::Request;
 use request::Word;
 
 // A text.
 pub fn put_text(out: &mut [u8], at: usize, text: &[u8]) -> usize
     requires { ⌜ at + length (now text) ≤ length (now out) ⌝ }
-    ensures { λ r. ⌜ Written (now (out .entry)) at (now (text .entry)) r (now (out .exit)) ⌝ }
+    ensures { λ r. ⌜ Puts (now (out .entry)) at (now (text .entry)) r (now (out .exit)) ⌝ }
 {
     let mut i: usize = 0;
     while i < text.len() {
@@ -34,7 +35,7 @@ pub fn put_text(out: &mut [u8], at: usize, text: &[u8]) -> usize
 // The digits of a number: those of its tenth part, and the last one behind them.
 fn digits_at(out: &mut [u8], at: usize, n: u64) -> usize
     requires { ⌜ at + length (decimal n) ≤ length (now out) ⌝ }
-    ensures { λ r. ⌜ Written (now (out .entry)) at (decimal n) r (now (out .exit)) ⌝ }
+    ensures { λ r. ⌜ Puts (now (out .entry)) at (decimal n) r (now (out .exit)) ⌝ }
 {
     if n < 10 {
         out[at] = 48 + n as u8;
@@ -48,7 +49,7 @@ fn digits_at(out: &mut [u8], at: usize, n: u64) -> usize
 // A number of up to 20 digits.
 pub fn put_number(out: &mut [u8], at: usize, n: u64) -> usize
     requires { ⌜ at + 20 ≤ length (now out) ⌝ }
-    ensures { λ r. ⌜ Written (now (out .entry)) at (decimal n) r (now (out .exit)) ⌝ }
+    ensures { λ r. ⌜ Puts (now (out .entry)) at (decimal n) r (now (out .exit)) ⌝ }
     ensures { λ r. ⌜ r ≤ at + 20 ⌝ }
 {
     digits_at(out, at, n)
@@ -57,7 +58,7 @@ pub fn put_number(out: &mut [u8], at: usize, n: u64) -> usize
 // Numbers, each behind a space.
 fn put_numbers(out: &mut [u8], at: usize, numbers: &[u64]) -> usize
     requires { ⌜ at + 21 * length (now numbers) ≤ length (now out) ⌝ }
-    ensures { λ r. ⌜ Written (now (out .entry)) at (spaced (now (numbers .entry))) r (now (out .exit)) ⌝ }
+    ensures { λ r. ⌜ Puts (now (out .entry)) at (spaced (now (numbers .entry))) r (now (out .exit)) ⌝ }
     ensures { λ r. ⌜ r ≤ at + 21 * length (now (numbers .entry)) ⌝ }
 {
     let mut next = at;
@@ -73,7 +74,7 @@ fn put_numbers(out: &mut [u8], at: usize, numbers: &[u64]) -> usize
 // A whole line: a word, numbers and a line feed.
 fn put_line(out: &mut [u8], at: usize, word: &[u8], numbers: &[u64]) -> usize
     requires { ⌜ at + length (now word) + 21 * length (now numbers) + 1 ≤ length (now out) ⌝ }
-    ensures { λ r. ⌜ Written (now (out .entry)) at (line (now (word .entry)) (now (numbers .entry))) r (now (out .exit)) ⌝ }
+    ensures { λ r. ⌜ Puts (now (out .entry)) at (answerLine (now (word .entry)) (now (numbers .entry))) r (now (out .exit)) ⌝ }
 {
     let behind_word = put_text(out, at, word);
     let behind_numbers = put_numbers(out, behind_word, numbers);
@@ -82,24 +83,24 @@ fn put_line(out: &mut [u8], at: usize, word: &[u8], numbers: &[u64]) -> usize
 
 // ok and one number
 fn put_ok(out: &mut [u8], at: usize, x: u64) -> usize
-    requires { ⌜ at + 50 ≤ length (now out) ⌝ }
-    ensures { λ r. ⌜ Written (now (out .entry)) at (line (bytesOf "ok") (x ∷ [])) r (now (out .exit)) ⌝ }
+    requires { ⌜ at + shortRoom ≤ length (now out) ⌝ }
+    ensures { λ r. ⌜ Puts (now (out .entry)) at (answerLine (bytesOf "ok") (x ∷ [])) r (now (out .exit)) ⌝ }
 {
     put_line(out, at, b"ok", &[x])
 }
 
 // ok and two numbers
 fn put_two(out: &mut [u8], at: usize, x: u64, y: u64) -> usize
-    requires { ⌜ at + 50 ≤ length (now out) ⌝ }
-    ensures { λ r. ⌜ Written (now (out .entry)) at (line (bytesOf "ok") (x ∷ y ∷ [])) r (now (out .exit)) ⌝ }
+    requires { ⌜ at + shortRoom ≤ length (now out) ⌝ }
+    ensures { λ r. ⌜ Puts (now (out .entry)) at (answerLine (bytesOf "ok") (x ∷ y ∷ [])) r (now (out .exit)) ⌝ }
 {
     put_line(out, at, b"ok", &[x, y])
 }
 
 // refused and its number
 fn put_refused(out: &mut [u8], at: usize, n: u32) -> usize
-    requires { ⌜ at + 50 ≤ length (now out) ⌝ }
-    ensures { λ r. ⌜ Written (now (out .entry)) at (line (bytesOf "refused") (n ∷ [])) r (now (out .exit)) ⌝ }
+    requires { ⌜ at + shortRoom ≤ length (now out) ⌝ }
+    ensures { λ r. ⌜ Puts (now (out .entry)) at (answerLine (bytesOf "refused") (n ∷ [])) r (now (out .exit)) ⌝ }
 {
     put_line(out, at, b"refused", &[n as u64])
 }
@@ -108,24 +109,17 @@ fn put_refused(out: &mut [u8], at: usize, n: u32) -> usize
 fn over_numbers(region: u32, method: u32, excess: u64, months: [u32; 12]) -> [u64; 16]
     ensures { λ r. ⌜ r ≡ 11 ∷ region ∷ method ∷ excess ∷ months ⌝ }
 {
-    [
-        11,
-        region as u64,
-        method as u64,
-        excess,
-        months[0] as u64,
-        months[1] as u64,
-        months[2] as u64,
-        months[3] as u64,
-        months[4] as u64,
-        months[5] as u64,
-        months[6] as u64,
-        months[7] as u64,
-        months[8] as u64,
-        months[9] as u64,
-        months[10] as u64,
-        months[11] as u64,
-    ]
+    let mut numbers: [u64; 16] = [0; 16];
+    numbers[0] = 11;
+    numbers[1] = region as u64;
+    numbers[2] = method as u64;
+    numbers[3] = excess;
+    let mut i: usize = 0;
+    while i < 12 {
+        numbers[4 + i] = months[i] as u64;
+        i += 1;
+    }
+    numbers
 }
 
 // refused 11 REGION METHOD EXCESS M1 .. Mt
@@ -138,8 +132,8 @@ fn put_over(
     excess: u64,
     months: [u32; 12],
 ) -> usize
-    requires { ⌜ at + 344 ≤ length (now out) ⌝ }
-    ensures { λ r. ⌜ Written (now (out .entry)) at (answerText (over (cell region method) (take t months) (pos excess))) r (now (out .exit)) ⌝ }
+    requires { ⌜ at + answerRoom ≤ length (now out) ⌝ }
+    ensures { λ r. ⌜ Puts (now (out .entry)) at (answerText (over (cell region method) (take t months) (pos excess))) r (now (out .exit)) ⌝ }
 {
     let numbers = over_numbers(region, method, excess, months);
     if t < 12 {
@@ -151,8 +145,8 @@ fn put_over(
 
 // The answer of SET, PUT, OPEN, CLOSE or DROP, with the months that stand beside it.
 pub fn put_reply(out: &mut [u8], at: usize, reply: Reply, months: [u32; 12]) -> usize
-    requires { ⌜ at + 344 ≤ length (now out) ⌝ }
-    ensures { λ r. ⌜ Written (now (out .entry)) at (answerText (answerOf reply months)) r (now (out .exit)) ⌝ }
+    requires { ⌜ at + answerRoom ≤ length (now out) ⌝ }
+    ensures { λ r. ⌜ Puts (now (out .entry)) at (answerText (answerOf reply months)) r (now (out .exit)) ⌝ }
 {
     match reply {
         Reply::Accepted => put_text(out, at, b"ok\n"),
@@ -166,8 +160,8 @@ pub fn put_reply(out: &mut [u8], at: usize, reply: Reply, months: [u32; 12]) -> 
 
 // The answer of BENCHMARK, MAXIMUM or QUOTE.
 pub fn put_told(out: &mut [u8], at: usize, told: Told) -> usize
-    requires { ⌜ at + 50 ≤ length (now out) ⌝ }
-    ensures { λ r. ⌜ Written (now (out .entry)) at (toldText (tellingOf told)) r (now (out .exit)) ⌝ }
+    requires { ⌜ at + shortRoom ≤ length (now out) ⌝ }
+    ensures { λ r. ⌜ Puts (now (out .entry)) at (toldText (tellingOf told)) r (now (out .exit)) ⌝ }
 {
     match told {
         Told::Refused(n) => put_refused(out, at, n),
@@ -180,62 +174,103 @@ pub fn put_told(out: &mut [u8], at: usize, told: Told) -> usize
     }
 }
 
-// error line L, and what follows it
-fn put_error(out: &mut [u8], at: usize, l: u64, rest: &[u8]) -> usize
-    requires { ⌜ at + 31 + length (now rest) ≤ length (now out) ⌝ }
-    ensures { λ r. ⌜ Written (now (out .entry)) at (bytesOf "error line " ++ decimal l ++ now (rest .entry)) r (now (out .exit)) ⌝ }
-    ensures { λ r. ⌜ r ≤ at + 31 + length (now (rest .entry)) ⌝ }
+// A number between two texts.
+fn put_numbered(out: &mut [u8], at: usize, before: &[u8], n: u64, behind: &[u8]) -> usize
+    requires { ⌜ at + length (now before) + 20 + length (now behind) ≤ length (now out) ⌝ }
+    ensures { λ r. ⌜ Puts (now (out .entry)) at (now (before .entry) ++ decimal n ++ now (behind .entry)) r (now (out .exit)) ⌝ }
+    ensures { λ r. ⌜ r ≤ at + length (now (before .entry)) + 20 + length (now (behind .entry)) ⌝ }
 {
-    let behind_error = put_text(out, at, b"error line ");
-    let behind_l = put_number(out, behind_error, l);
-    put_text(out, behind_l, rest)
+    let behind_text = put_text(out, at, before);
+    let behind_number = put_number(out, behind_text, n);
+    put_text(out, behind_number, behind)
+}
+
+// error line L:
+fn put_error(out: &mut [u8], at: usize, l: u64) -> usize
+    requires { ⌜ at + 33 ≤ length (now out) ⌝ }
+    ensures { λ r. ⌜ Puts (now (out .entry)) at (errorStart l) r (now (out .exit)) ⌝ }
+    ensures { λ r. ⌜ r ≤ at + 33 ⌝ }
+{
+    put_numbered(out, at, b"error line ", l, b": ")
 }
 
 // error line L: longer than 16384 bytes
 pub fn put_too_long(out: &mut [u8], at: usize, l: u64) -> usize
-    requires { ⌜ at + 97 ≤ length (now out) ⌝ }
-    ensures { λ r. ⌜ Written (now (out .entry)) at (tooLong l) r (now (out .exit)) ⌝ }
+    requires { ⌜ at + errorRoom ≤ length (now out) ⌝ }
+    ensures { λ r. ⌜ Puts (now (out .entry)) at (tooLong l) r (now (out .exit)) ⌝ }
 {
-    put_error(out, at, l, b": longer than 16384 bytes\n")
+    let next = put_error(out, at, l);
+    put_text(out, next, b"longer than 16384 bytes\n")
 }
 
-// error line L: word K is not a number from 0 to 4294967295
-fn put_not_a_number(out: &mut [u8], at: usize, l: u64, k: usize) -> usize
-    requires { ⌜ at + 97 ≤ length (now out) ⌝ }
-    ensures { λ r. ⌜ Written (now (out .entry)) at (problemText l (Request.NotANumber k)) r (now (out .exit)) ⌝ }
+// word K is not a number from 0 to 4294967295
+fn put_not_a_number(out: &mut [u8], at: usize, k: usize) -> usize
+    requires { ⌜ at + 64 ≤ length (now out) ⌝ }
+    ensures { λ r. ⌜ Puts (now (out .entry)) at (notANumberText k) r (now (out .exit)) ⌝ }
 {
-    let behind_word = put_error(out, at, l, b": word ");
-    let behind_k = put_number(out, behind_word, k as u64);
-    put_text(out, behind_k, b" is not a number from 0 to 4294967295\n")
+    put_numbered(
+        out,
+        at,
+        b"word ",
+        k as u64,
+        b" is not a number from 0 to 4294967295\n",
+    )
 }
 
-// error line L: a call with too few or too many numbers
-fn put_wrong_count(out: &mut [u8], at: usize, l: u64, word: Word) -> usize
-    requires { ⌜ at + 97 ≤ length (now out) ⌝ }
-    ensures { λ r. ⌜ Written (now (out .entry)) at (problemText l (Request.WrongCount word)) r (now (out .exit)) ⌝ }
+// N numbers, behind a text.
+fn put_count(out: &mut [u8], at: usize, text: &[u8], n: usize) -> usize
+    requires { ⌜ at + length (now text) + 29 ≤ length (now out) ⌝ }
+    ensures { λ r. ⌜ Puts (now (out .entry)) at (countText (now (text .entry)) n) r (now (out .exit)) ⌝ }
 {
-    match word {
-        Word::Set => put_error(out, at, l, b": set takes at least 3 numbers\n"),
-        Word::Put => put_error(out, at, l, b": put takes at least 1 number\n"),
-        Word::Open => put_error(out, at, l, b": open takes 1 number\n"),
-        Word::Close => put_error(out, at, l, b": close takes 1 number\n"),
-        Word::Drop => put_error(out, at, l, b": drop takes 1 number\n"),
-        Word::Benchmark => put_error(out, at, l, b": benchmark takes 4 numbers\n"),
-        Word::Maximum => put_error(out, at, l, b": maximum takes 4 numbers\n"),
-        Word::Quote => put_error(out, at, l, b": quote takes at least 3 numbers\n"),
+    if n == 1 {
+        return put_numbered(out, at, text, n as u64, b" number\n");
     }
+    put_numbered(out, at, text, n as u64, b" numbers\n")
+}
+
+// takes N numbers, or at least N
+fn put_arity(out: &mut [u8], at: usize, arity: Arity) -> usize
+    requires { ⌜ at + 45 ≤ length (now out) ⌝ }
+    ensures { λ r. ⌜ Puts (now (out .entry)) at (arityText arity) r (now (out .exit)) ⌝ }
+{
+    match arity {
+        Arity::Exactly(n) => put_count(out, at, b" takes ", n),
+        Arity::AtLeast(n) => put_count(out, at, b" takes at least ", n),
+    }
+}
+
+// A call's name, and how many numbers it takes.
+fn put_wrong_count(out: &mut [u8], at: usize, word: Word) -> usize
+    requires { ⌜ at + 64 ≤ length (now out) ⌝ }
+    ensures { λ r. ⌜ Puts (now (out .entry)) at (nameOf word ++ arityText (arity word)) r (now (out .exit)) ⌝ }
+{
+    let form = request::form_of(word);
+    let name = form.name;
+    let size = form.size;
+    let arity = form.arity;
+    let behind_name = put_text(out, at, &name[..size]);
+    put_arity(out, behind_name, arity)
 }
 
 // The answer to a line that is no call: nothing to a line that is passed over, and else its error.
 pub fn put_problem(out: &mut [u8], at: usize, l: u64, request: Request) -> usize
-    requires { ⌜ at + 97 ≤ length (now out) ⌝ }
-    ensures { λ r. ⌜ Written (now (out .entry)) at (problemText l request) r (now (out .exit)) ⌝ }
+    requires { ⌜ at + errorRoom ≤ length (now out) ⌝ }
+    ensures { λ r. ⌜ Puts (now (out .entry)) at (problemText l request) r (now (out .exit)) ⌝ }
 {
     match request {
         Request::Nothing => at,
-        Request::Call(_, _) => at,
-        Request::Unknown => put_error(out, at, l, b": unknown call\n"),
-        Request::NotANumber(k) => put_not_a_number(out, at, l, k),
-        Request::WrongCount(word) => put_wrong_count(out, at, l, word),
+        Request::Asks(_, _) => at,
+        Request::Unknown => {
+            let next = put_error(out, at, l);
+            put_text(out, next, b"unknown call\n")
+        }
+        Request::NotANumber(k) => {
+            let next = put_error(out, at, l);
+            put_not_a_number(out, next, k)
+        }
+        Request::WrongCount(word) => {
+            let next = put_error(out, at, l);
+            put_wrong_count(out, next, word)
+        }
     }
 }

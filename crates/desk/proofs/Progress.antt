@@ -11,6 +11,7 @@ use borrow.Author.Tests.{ltb-true, ltb-false, lt-ltb, le-leb}
 use Rattle.laws.proofs.Every.{and-both}
 use Rattle.book.specs.declared.Book.{Book}
 use Rattle.book.proofs.Places.{never}
+use Rattle.answers.specs.Writing.{answerRoom}
 use Rattle.protocol.specs.Lines.{between}
 use Rattle.desk.specs.declared.Input.{Input}
 use Rattle.desk.specs.declared.Desk.{Desk}
@@ -18,7 +19,7 @@ use Rattle.desk.specs.Desk.{hasFeed, hasRoom, Took}
 use Rattle.desk.proofs.Taking.{takes-none}
 
 pub progress : {b : Book} {l : ℕ} {i : Input} {input before : List ℕ} {r : Desk} {after : List ℕ} → Took b l i input before r after
-    → 344 ≤ length before → l + 1 < 2 ^ 64 → hasFeed (between input (i .from) (i .to)) ≡ true → i .from < r .input .from
+    → answerRoom ≤ length before → l + 1 < 2 ^ 64 → hasFeed (between input (i .from) (i .to)) ≡ true → i .from < r .input .from
 unfolding hasFeed
 progress {b} {l} {i} {input} {before} {r} {after} t room number line = go (ltb (i .from) (r .input .from)) refl
   where
@@ -30,7 +31,7 @@ progress {b} {l} {i} {input} {before} {r} {after} t room number line = go (ltb (
         let n = takes-none (t .takes) (ap (λ k. hasFeed (take k (drop (i .from) input))) zero) in
         let no = t .full (ap (λ x. x .more) (t .left) ∙ ap (λ k. hasFeed (between input k (i .to))) same ∙ line) in
         let yes : hasRoom (r .at) (length before) (r .lines) ≡ true =
-        and-both (leb (r .at + 344) (length before)) (ltb (r .lines + 1) (2 ^ 64))
-        (le-leb (r .at + 344) (length before) (omega (arith, room, t .written .ends, n .1)))
+        and-both (leb (r .at + answerRoom) (length before)) (ltb (r .lines + 1) (2 ^ 64))
+        (le-leb (r .at + answerRoom) (length before) (omega (arith, room, t .puts .ends, n .1)))
         (lt-ltb (r .lines + 1) (2 ^ 64) (omega (arith, number, n .0))) in
         never (cc (no, yes))

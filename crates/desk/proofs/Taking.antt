@@ -17,13 +17,13 @@ use Rattle.bytes.specs.Bytes.{indexOf, indexAfter}
 use Rattle.book.specs.declared.Book.{Book}
 use Rattle.book.specs.Book.{Reachable}
 use Rattle.book.proofs.Places.{never}
-use Rattle.answers.specs.Writing.{Written}
-use Rattle.answers.proofs.Writing.{behind, nothing}
-use Rattle.protocol.specs.Lines.{lineAt, between}
+use Rattle.answers.specs.Writing.{Puts, answerRoom}
+use Rattle.answers.proofs.Writing.{puts-behind, puts-none}
+use Rattle.protocol.specs.Lines.{longestLine, lineAt, between}
 use Rattle.protocol.proofs.Parts.{length-between}
 use Rattle.desk.specs.declared.Input.{Input}
 use Rattle.desk.specs.declared.Desk.{Desk}
-use Rattle.desk.specs.Desk.{hasFeed, Takes, none, more, hasRoom, Holds, Keeps, isLeft, stopped, AfterRead, Reads, afterWrite, Flushes, Turns, Steady, Turned, turn-more}
+use Rattle.desk.specs.Desk.{hasFeed, Takes, none-taken, line-taken, hasRoom, Holds, Keeps, isLeft, stopped, AfterRead, Reads, afterWrite, Flushes, Turns, Steady, Turned, turn-more}
 
 -- a list that begins with the bytes between two places
 pub front-is : (xs ys : List ℕ) (from to : ℕ) → to ≤ length xs → length ys ≡ length xs
@@ -121,15 +121,15 @@ line-more xs start from to end h k l e =
     ∙ ap (λ ys. between xs start from ++ between xs from end ++ ys) (between-one xs end (omega arith) ∙ ap (λ b. b ∷ []) (feed-at xs from to end h l e))
 
 -- room for an answer and a number for its line
-pub room-yes : (at size l : ℕ) → hasRoom at size l ≡ true → (at + 344 ≤ size) × (l + 1 < 2 ^ 64)
+pub room-yes : (at size l : ℕ) → hasRoom at size l ≡ true → (at + answerRoom ≤ size) × (l + 1 < 2 ^ 64)
 room-yes at size l e =
-    (leb-true (at + 344) size (and-left _ (ltb (l + 1) (2 ^ 64)) e), ltb-true (l + 1) (2 ^ 64) (and-right (leb (at + 344) size) _ e))
+    (leb-true (at + answerRoom) size (and-left _ (ltb (l + 1) (2 ^ 64)) e), ltb-true (l + 1) (2 ^ 64) (and-right (leb (at + answerRoom) size) _ e))
 
 -- what the loop of `take_lines` has done so far
 pub record Sofar (b : Book) (lines : ℕ) (i : Input) (input before after : List ℕ) (book : Book) (from : ℕ) (cut : Bool) (l at end : ℕ) : Type 0 where
   pub text : List ℕ
   pub takes : Takes b lines (i .cut) (between input (i .from) from) book l cut text
-  pub written : Written before 0 text at after
+  pub puts : Puts before 0 text at after
   pub reachable : Reachable book
   pub passed : i .from ≤ from
   pub order : from ≤ end
@@ -143,8 +143,8 @@ module _ (b : Book) (lines : ℕ) (i : Input) (input before : List ℕ) (fits : 
   sofar-none end r o k f =
       record {
         text = [];
-        takes = subst (λ bytes. Takes b lines (i .cut) bytes b lines (i .cut) []) (sym (between-none input (i .from))) none;
-        written = nothing before 0 (omega arith);
+        takes = subst (λ bytes. Takes b lines (i .cut) bytes b lines (i .cut) []) (sym (between-none input (i .from))) none-taken;
+        puts = puts-none before 0 (omega arith);
         reachable = r;
         passed = omega arith;
         order = o;
@@ -156,7 +156,7 @@ module _ (b : Book) (lines : ℕ) (i : Input) (input before : List ℕ) (fits : 
   pub sofar-more : (after after′ : List ℕ) (book book′ : Book) (from : ℕ) (cut : Bool) (l at at′ end end′ : ℕ)
       → Sofar b lines i input before after book from cut l at end → end < i .to
       → book′ ≡ lineAt book (l + 1) cut (between input from end) .book → Reachable book′
-      → Written after at (lineAt book (l + 1) cut (between input from end) .text) at′ after′
+      → Puts after at (lineAt book (l + 1) cut (between input from end) .text) at′ after′
       → end + 1 ≤ end′ → end′ ≤ i .to → end′ ≡ end + 1 + indexOf 10 (between input (end + 1) (i .to))
       → Sofar b lines i input before after′ book′ (end + 1) false (l + 1) at′ end′
   sofar-more after after′ book book′ from cut l at at′ end end′ s k e r w o m f =
@@ -164,8 +164,8 @@ module _ (b : Book) (lines : ℕ) (i : Input) (input before : List ℕ) (fits : 
       record {
         text = s .text ++ lineAt book (l + 1) cut line .text;
         takes = rw (line-more input (i .from) from (i .to) end fits (s .passed) k (s .found), e)
-            (more line (s .takes) (no-feed input from (i .to) end (s .inside) (s .found)));
-        written = behind (s .written) w;
+            (line-taken line (s .takes) (no-feed input from (i .to) end (s .inside) (s .found)));
+        puts = puts-behind (s .puts) w;
         reachable = r;
         passed = omega (arith, s .passed, s .order);
         order = o;
@@ -214,16 +214,16 @@ feed-last (x ∷ xs) = go (eqb x 10) (feed-last xs)
 -- where no line feed is among the bytes taken there is no line, and no answer
 pub takes-none : {b b′ : Book} {l l′ : ℕ} {cut cut′ : Bool} {bytes text : List ℕ} → Takes b l cut bytes b′ l′ cut′ text → hasFeed bytes ≡ false
     → (l′ ≡ l) × (length text ≡ 0)
-takes-none none h = (refl, refl)
-takes-none (more {bytes = bytes} line t k) h = never (cc (sym h ∙ feed-last (bytes ++ line)))
+takes-none none-taken h = (refl, refl)
+takes-none (line-taken {bytes = bytes} line t k) h = never (cc (sym h ∙ feed-last (bytes ++ line)))
 
 -- what is kept of an unfinished line is no longer than a line may be
-pub kept-short : (i : Input) (before : List ℕ) (r : Input) (after : List ℕ) → Keeps i before r after → r .to ≤ 16384
+pub kept-short : (i : Input) (before : List ℕ) (r : Input) (after : List ℕ) → Keeps i before r after → r .to ≤ longestLine
 kept-short i before r after k = go (r .cut) (k .long) (ap (λ x. x .to) (k .input))
   where
-    go : (t : Bool) → t ≡ (i .cut || ltb 16384 (i .to - i .from)) → r .to ≡ cond t 0 (i .to - i .from) → r .to ≤ 16384
+    go : (t : Bool) → t ≡ (i .cut || ltb longestLine (i .to - i .from)) → r .to ≡ cond t 0 (i .to - i .from) → r .to ≤ longestLine
     go true e f = omega arith
-    go false e f = omega (arith, ltb-false 16384 (i .to - i .from) (or-right (i .cut) (ltb 16384 (i .to - i .from)) (sym e)))
+    go false e f = omega (arith, ltb-false longestLine (i .to - i .from) (or-right (i .cut) (ltb longestLine (i .to - i .from)) (sym e)))
 
 -- whether anything is left
 pub left-none : (i : Input) → i .cut ≡ false → i .to ≡ 0 → isLeft i ≡ false
@@ -246,16 +246,20 @@ left-some i h = go (i .cut)
 pub stopped-holds : {i : Input} {n : ℕ} → Holds i n → Holds (stopped i) n
 stopped-holds h = record { ordered = h .ordered; inside = h .inside }
 
-pub flushed-holds : {i r : Input} {n : ℕ} → Flushes i r → Holds i n → Holds r n
-flushed-holds {i} {r} {n} f h = subst (λ x. Holds x n) (sym (f .input)) (go (f .written))
+-- what an input has, whether or not the desk goes on, it has after the answers were written out
+pub flushed : (P : Input → Type 0) {i r : Input} → Flushes i r → P i → P (stopped i) → P r
+flushed P {i} f h k = subst P (sym (f .input)) (go (f .written))
   where
-    go : (t : Bool) → Holds (afterWrite t i) n
+    go : (t : Bool) → P (afterWrite t i)
     go true = h
-    go false = stopped-holds h
+    go false = k
+
+pub flushed-holds : {i r : Input} {n : ℕ} → Flushes i r → Holds i n → Holds r n
+flushed-holds {n = n} f h = flushed (λ x. Holds x n) f h (stopped-holds h)
 
 pub reads-within : (i : Input) (before : List ℕ) (r : Input) (after : List ℕ) → Reads i before r after → i .to < length before
     → (r .from ≡ i .from) × (r .to ≤ length before)
-reads-within i before r after k h = go (k .got) (k .moved) (k .answered)
+reads-within i before r after k h = go (k .got) (k .moved) (k .handled)
   where
     closes : (t : Bool) → cond t (i .to + 1) (i .to) ≤ length before
     closes true = omega arith

@@ -17,13 +17,13 @@ use borrow.Author.Tests.{ltb-true, ltb-false, lt-ltb}
 use Rattle.book.specs.declared.Book.{Book}
 use Rattle.book.specs.Book.{fresh}
 use Rattle.book.proofs.Places.{never}
-use Rattle.protocol.specs.Lines.{lineAt, between}
+use Rattle.protocol.specs.Lines.{longestLine, lineAt, between}
 use Rattle.protocol.proofs.Parts.{length-between}
 use Rattle.desk.specs.declared.Input.{Input}
 use Rattle.desk.specs.declared.Desk.{Desk}
-use Rattle.desk.specs.Desk.{hasFeed, Takes, none, more, Holds, Took, Keeps, isLeft, AfterRead, Reads, Fills, off, lines-left, at-end, reads, stopped, afterWrite, Flushes, atStart, Turned, none-yet, turn-more}
+use Rattle.desk.specs.Desk.{hasFeed, Takes, none-taken, line-taken, Holds, Took, Keeps, isLeft, AfterRead, Reads, Fills, off, lines-left, at-end, reads, stopped, afterWrite, Flushes, atStart, Turned, none-yet, turn-more}
 use Rattle.desk.specs.Whole.{added, addedBy, readIn, answersIn, Dropped, Whole, ReadFailed, WhyLast, write-failed, read-failed, all-done, WhyEnded}
-use Rattle.desk.proofs.Taking.{between-split, between-one, feed-append, feed-split, feed-last, takes-none, or-left, or-right, kept-short, stopped-holds, reads-within}
+use Rattle.desk.proofs.Taking.{between-split, between-one, feed-append, feed-split, feed-last, takes-none, or-left, or-right, kept-short, stopped-holds, flushed, reads-within}
 
 -- what was dropped has no line feed, and its line is answered as if it were there
 dropped-feed : (cut : Bool) (dropped : List ℕ) → Dropped cut dropped → hasFeed dropped ≡ false
@@ -34,8 +34,8 @@ dropped-feed false dropped h = ap hasFeed h
 line-as : (b : Book) (l : ℕ) (cut : Bool) (dropped line : List ℕ) → Dropped cut dropped → lineAt b l cut line ≡ lineAt b l false (dropped ++ line)
 unfolding lineAt
 line-as b l true dropped line h =
-    let k : 16384 < length (dropped ++ line) = omega (arith, h .0, length-append dropped line) in
-    rw (lt-ltb 16384 (length (dropped ++ line)) k) refl
+    let k : longestLine < length (dropped ++ line) = omega (arith, h .0, length-append dropped line) in
+    rw (lt-ltb longestLine (length (dropped ++ line)) k) refl
 line-as b l false dropped line h = ap (λ ys. lineAt b l false (ys ++ line)) (sym h)
 
 -- whole lines, or nothing: then no start of a line was dropped either
@@ -58,8 +58,8 @@ suffix (a ∷ fs) bs (x ∷ xs) e = suffix fs bs xs (cc)
 
 takes-cut : {b b′ : Book} {l l′ : ℕ} {cut cut′ : Bool} {bytes text : List ℕ} → Takes b l cut bytes b′ l′ cut′ text
     → ((bytes ≡ []) × (cut′ ≡ cut)) ⊎ (cut′ ≡ false)
-takes-cut none = inl (refl, refl)
-takes-cut (more line t h) = inr refl
+takes-cut none-taken = inl (refl, refl)
+takes-cut (line-taken line t h) = inr refl
 
 -- lines taken from the front of a list of bytes
 front-taken : (fs bs : List ℕ) (cut cut′ : Bool) → Complete cut (fs ++ bs) → ((fs ≡ []) × (cut′ ≡ cut)) ⊎ (cut′ ≡ false) → Complete cut′ bs
@@ -89,27 +89,27 @@ one-more {b = b} {l} {cut} j line h =
       taken = j .taken ++ (j .dropped ++ line) ++ (10 ∷ []);
       dropped = [];
       takes = rw (line-as b (l + 1) cut (j .dropped) line (j .start))
-          (more (j .dropped ++ line) (j .takes) (feed-append (j .dropped) line (dropped-feed cut (j .dropped) (j .start)) h));
+          (line-taken (j .dropped ++ line) (j .takes) (feed-append (j .dropped) line (dropped-feed cut (j .dropped) (j .start)) h));
       start = refl;
       all = ap (λ xs. xs ++ line ++ (10 ∷ [])) (j .all) ∙ simp (append-assoc, append-nil);
     }
 
 join : {done text bytes t : List ℕ} {b b′ : Book} {l l′ : ℕ} {cut cut′ : Bool} → Joined done b l cut text → Takes b l cut bytes b′ l′ cut′ t
     → Joined (done ++ bytes) b′ l′ cut′ (text ++ t)
-join {done} {text} j none = joined-as (sym (append-nil done)) (sym (append-nil text)) j
-join {done} {text} j (more {text = t} line k h) = joined-as (simp append-assoc) (append-assoc text t _) (one-more (join j k) line h)
+join {done} {text} j none-taken = joined-as (sym (append-nil done)) (sym (append-nil text)) j
+join {done} {text} j (line-taken {text = t} line k h) = joined-as (simp append-assoc) (append-assoc text t _) (one-more (join j k) line h)
 
 -- what is kept of the input, and what is dropped of it
 module _ (b : Book) (l : ℕ) (text : List ℕ) (i : Input) (before : List ℕ) (kept : Input) (front : List ℕ) (k : Keeps i before kept front) (fits : i .to ≤ length before) where
   abbrev had : List ℕ
   had = between before (i .from) (i .to)
 
-  long : (c : Bool) (dropped : List ℕ) → Dropped c dropped → true ≡ (c || ltb 16384 (i .to - i .from)) → 16384 < length (dropped ++ had)
+  long : (c : Bool) (dropped : List ℕ) → Dropped c dropped → true ≡ (c || ltb longestLine (i .to - i .from)) → longestLine < length (dropped ++ had)
   long true dropped h e = omega (arith, h .0, length-append dropped had)
   long false dropped h e =
-      omega (arith, ltb-true 16384 (i .to - i .from) (sym e), length-append dropped had, length-between before (i .from) (i .to) fits)
+      omega (arith, ltb-true longestLine (i .to - i .from) (sym e), length-append dropped had, length-between before (i .from) (i .to) fits)
 
-  not-cut : (c : Bool) (dropped : List ℕ) → Dropped c dropped → false ≡ (c || ltb 16384 (i .to - i .from)) → dropped ≡ []
+  not-cut : (c : Bool) (dropped : List ℕ) → Dropped c dropped → false ≡ (c || ltb longestLine (i .to - i .from)) → dropped ≡ []
   not-cut true dropped h e = never (cc)
   not-cut false dropped h e = h
 
@@ -117,7 +117,7 @@ module _ (b : Book) (l : ℕ) (text : List ℕ) (i : Input) (before : List ℕ) 
       → (done′ : List ℕ) × Joined done′ b l (kept .cut) text × (done ++ had ≡ done′ ++ take (kept .to) front)
   kept-joins done j h = go (kept .cut) (k .long) (k .bytes)
     where
-      go : (t : Bool) → t ≡ (i .cut || ltb 16384 (i .to - i .from)) → take (kept .to) front ≡ cond t [] had
+      go : (t : Bool) → t ≡ (i .cut || ltb longestLine (i .to - i .from)) → take (kept .to) front ≡ cond t [] had
           → (done′ : List ℕ) × Joined done′ b l t text × (done ++ had ≡ done′ ++ take (kept .to) front)
       go true e f = (
         done ++ had,
@@ -151,7 +151,7 @@ module _ (i : Input) (before : List ℕ) (r : Input) (after : List ℕ) (k : Rea
   closed-adds false = kept-bytes ∙ sym (append-nil (take (i .to) before))
 
   read-adds : (r .cut ≡ i .cut) × (length after ≡ length before) × (between after (r .from) (r .to) ≡ take (i .to) before ++ added (k .got) i (k .into))
-  read-adds = go (k .got) (k .answered)
+  read-adds = go (k .got) (k .handled)
     where
       closed-size : (t : Bool) → length (cond t (set (k .into) (i .to) 10) (k .into)) ≡ length before
       closed-size true = length-set (k .into) (i .to) 10 ∙ k .size
@@ -171,7 +171,7 @@ module _ (i : Input) (before : List ℕ) (r : Input) (after : List ℕ) (k : Rea
 
   -- at the end it is whole lines, or nothing
   ended-whole : i .ended ≡ false → r .ended ≡ true → Complete (r .cut) (between after (r .from) (r .to))
-  ended-whole x y = go (k .got) (k .answered)
+  ended-whole x y = go (k .got) (k .handled)
     where
       closed-whole : (t : Bool) → isLeft i ≡ t → Complete (i .cut) (between (cond t (set (k .into) (i .to) 10) (k .into)) (i .from) (cond t (i .to + 1) (i .to)))
       closed-whole true e = inr (take (i .to) before, closed-adds true)
@@ -192,13 +192,12 @@ record Account (read text : List ℕ) (b : Book) (l : ℕ) (i : Input) (input : 
   holds : Holds i (length input)
   size : length input ≡ 65536
 
+stopped-account : {read text input : List ℕ} {b : Book} {l : ℕ} {i : Input} → Account read text b l i input → Account read text b l (stopped i) input
+stopped-account a = record { done = a .done; joined = a .joined; all = a .all; holds = stopped-holds (a .holds); size = a .size }
+
 flushed-account : {read text input : List ℕ} {b : Book} {l : ℕ} {i r : Input} → Flushes i r → Account read text b l i input
     → Account read text b l r input
-flushed-account {read} {text} {input} {b} {l} {i} f a = subst (λ x. Account read text b l x input) (sym (f .input)) (go (f .written))
-  where
-    go : (t : Bool) → Account read text b l (afterWrite t i) input
-    go true = a
-    go false = record { done = a .done; joined = a .joined; all = a .all; holds = stopped-holds (a .holds); size = a .size }
+flushed-account {read} {text} {input} {b} {l} f a = flushed (λ x. Account read text b l x input) f a (stopped-account a)
 
 filled-account : {read text before after : List ℕ} {b : Book} {l : ℕ} {i r : Input} → Account read text b l i before
     → i .more ≡ hasFeed (between before (i .from) (i .to)) → (f : Fills i before r after) → Account (read ++ addedBy f) text b l r after
@@ -211,8 +210,7 @@ filled-account {read} {text} {before} {after} {b} {l} {i} {r} a m f = go f
     go : (f : Fills i before r after) → Account (read ++ addedBy f) text b l r after
     go (off x e g) = rw (e, g) same
     go (lines-left x y e g) = rw (e, g) same
-    go (at-end x y z e g) =
-        rw (e, g) record { done = a .done; joined = a .joined; all = append-nil read ∙ a .all; holds = stopped-holds (a .holds); size = a .size }
+    go (at-end x y z e g) = rw (e, g) (stopped-account same)
     go (reads x y z kept front k rd) =
         let short : kept .to < length front = omega (arith, kept-short i before kept front k, k .size, a .size) in
         let zero : kept .from ≡ 0 = ap (λ q. q .from) (k .input) in
@@ -250,11 +248,7 @@ record Marks (i : Input) (input : List ℕ) : Type 0 where
   last : i .ended ≡ true → Complete (i .cut) (between input (i .from) (i .to))
 
 flushed-marks : {i r : Input} {input : List ℕ} → Flushes i r → Marks i input → Marks r input
-flushed-marks {i} {r} {input} f m = subst (λ x. Marks x input) (sym (f .input)) (go (f .written))
-  where
-    go : (t : Bool) → Marks (afterWrite t i) input
-    go true = m
-    go false = record { line = m .line; last = m .last }
+flushed-marks {input = input} f m = flushed (λ x. Marks x input) f m (record { line = m .line; last = m .last })
 
 filled-last : {read text before after : List ℕ} {b : Book} {l : ℕ} {i r : Input} → Account read text b l i before → Marks i before
     → Fills i before r after → r .ended ≡ true → Complete (r .cut) (between after (r .from) (r .to))
@@ -286,7 +280,7 @@ unfolding readIn answersIn hasFeed
 accounts e none-yet = (
   record {
     done = [];
-    joined = record { taken = []; dropped = []; takes = none; start = refl; all = refl };
+    joined = record { taken = []; dropped = []; takes = none-taken; start = refl; all = refl };
     all = refl;
     holds = record { ordered = omega arith; inside = omega arith };
     size = e;
@@ -330,7 +324,7 @@ nothing-left {i = i} {input = input} {r = r} t h =
     let from = r .input .from in
     let order : from ≤ i .to = omega (arith, t .holds .ordered, ap (λ x. x .to) (t .left)) in
     let p = feed-split (between input (i .from) from) (between input from (i .to)) (ap hasFeed (sym (between-split input (i .from) from (i .to) (t .passed) order)) ∙ h) in
-    (ap (λ x. x .more) (t .left) ∙ p .1, omega (arith, t .written .ends, takes-none (t .takes) (p .0) .1))
+    (ap (λ x. x .more) (t .left) ∙ p .1, omega (arith, t .puts .ends, takes-none (t .takes) (p .0) .1))
 
 -- a turn's read leaves the desk going on, unless it failed or the input was over
 why-off : {i r : Input} {before after : List ℕ} (f : Fills i before r after) → i .on ≡ true → r .on ≡ false
@@ -338,7 +332,7 @@ why-off : {i r : Input} {before after : List ℕ} (f : Fills i before r after) �
 why-off (off x e g) a b = never (cc)
 why-off (lines-left x y e g) a b = never (cc (ap (λ q. q .on) e))
 why-off (at-end x y z e g) a b = inr (y, z, e, g)
-why-off {r = r} {after = after} (reads x y z kept front k rd) a b = inl (go (rd .got) (rd .answered))
+why-off {r = r} {after = after} (reads x y z kept front k rd) a b = inl (go (rd .got) (rd .handled))
   where
     on : kept .on ≡ true
     on = ap (λ q. q .on) (k .input) ∙ x

@@ -12,8 +12,8 @@ use lib.ListN.{length, take, set}
 use Rattle.libc.specs.Io.{Moved}
 use Rattle.book.specs.declared.Book.{Book}
 use Rattle.book.specs.Book.{fresh, Reachable}
-use Rattle.answers.specs.Writing.{Written}
-use Rattle.protocol.specs.Lines.{lineAt, between}
+use Rattle.answers.specs.Writing.{Puts, answerRoom}
+use Rattle.protocol.specs.Lines.{longestLine, lineAt, between}
 use Rattle.desk.specs.declared.Input.{Input}
 use Rattle.desk.specs.declared.Desk.{Desk}
 
@@ -25,14 +25,14 @@ hasFeed (b ∷ bs) = eqb b 10 || hasFeed bs
 -- lines of the input, each with its line feed, taken one after the other: the bytes taken, and the book, the count of lines, whether
 -- the start of the next line was dropped, and the text of the answers after them
 pub data Takes (b₀ : Book) (l₀ : ℕ) (cut₀ : Bool) : List ℕ → Book → ℕ → Bool → List ℕ → Type 0 where
-  none : Takes b₀ l₀ cut₀ [] b₀ l₀ cut₀ []
-  more : {bytes text : List ℕ} {b : Book} {l : ℕ} {cut : Bool} (line : List ℕ) → Takes b₀ l₀ cut₀ bytes b l cut text → hasFeed line ≡ false
+  none-taken : Takes b₀ l₀ cut₀ [] b₀ l₀ cut₀ []
+  line-taken : {bytes text : List ℕ} {b : Book} {l : ℕ} {cut : Bool} (line : List ℕ) → Takes b₀ l₀ cut₀ bytes b l cut text → hasFeed line ≡ false
       → Takes b₀ l₀ cut₀ (bytes ++ line ++ (10 ∷ [])) (lineAt b (l + 1) cut line .book) (l + 1) false (text ++ lineAt b (l + 1) cut line .text)
 
--- room for another answer, which has 344 bytes at most, behind `at` in an output of this size, and a number of 64 bits for the line
+-- room for another answer behind `at` in an output of this size, and a number of 64 bits for the line
 -- after line l
 abbrev pub hasRoom : (at size l : ℕ) → Bool
-hasRoom at size l = leb (at + 344) size && ltb (l + 1) (2 ^ 64)
+hasRoom at size l = leb (at + answerRoom) size && ltb (l + 1) (2 ^ 64)
 
 -- what the desk has of the input lies within a buffer of this length
 pub record Holds (i : Input) (size : ℕ) : Type 0 where
@@ -49,7 +49,7 @@ behindLines i input from cut =
 pub record Took (b : Book) (l : ℕ) (i : Input) (input before : List ℕ) (r : Desk) (after : List ℕ) : Type 0 where
   pub text : List ℕ
   pub takes : Takes b l (i .cut) (between input (i .from) (r .input .from)) (r .book) (r .lines) (r .input .cut) text
-  pub written : Written before 0 text (r .at) after
+  pub puts : Puts before 0 text (r .at) after
   pub reachable : Reachable (r .book)
   pub holds : Holds (r .input) (length input)
   pub passed : i .from ≤ r .input .from
@@ -62,7 +62,7 @@ atFront i to cut = record { from = 0; to = to; cut = cut; more = i .more; ended 
 
 -- the start of an unfinished line is kept at the front, or dropped where it is too long
 pub record Keeps (i : Input) (before : List ℕ) (r : Input) (after : List ℕ) : Type 0 where
-  pub long : r .cut ≡ (i .cut || ltb 16384 (i .to - i .from))
+  pub long : r .cut ≡ (i .cut || ltb longestLine (i .to - i .from))
   pub input : r ≡ atFront i (cond (r .cut) 0 (i .to - i .from)) (r .cut)
   pub bytes : take (r .to) after ≡ cond (r .cut) [] (between before (i .from) (i .to))
   pub size : length after ≡ length before
@@ -101,7 +101,7 @@ pub record Reads (i : Input) (before : List ℕ) (r : Input) (after : List ℕ) 
   pub size : length into ≡ length before
   pub bytes : take (i .to) into ≡ take (i .to) before
   pub moved : Moved (length into - i .to) got
-  pub answered : AfterRead got i into r after
+  pub handled : AfterRead got i into r after
 
 -- more of the input where the desk goes on and no whole line is left of it: at its end the desk goes on no more, and else the start of an
 -- unfinished line is kept and more is read behind it
@@ -137,7 +137,7 @@ pub record Steady (d : Desk) (input numbers out : ℕ) : Type 0 where
   pub holds : Holds (d .input) input
   pub waiting : d .at ≤ out
   pub input-size : input ≡ 65536
-  pub numbers-size : numbers ≡ 16384
+  pub numbers-size : numbers ≡ longestLine
   pub out-size : out ≡ 65536
 
 -- at the start the book is fresh, no line is taken, no answer waits, nothing is read, and the desk goes on

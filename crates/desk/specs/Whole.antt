@@ -8,7 +8,7 @@ use lib.IntN.{ℤ, pos, negsuc}
 use lib.ListN.{length}
 use lib.Signed.{ltZ}
 use Rattle.book.specs.Book.{fresh}
-use Rattle.protocol.specs.Lines.{between}
+use Rattle.protocol.specs.Lines.{longestLine, between}
 use Rattle.desk.specs.declared.Input.{Input}
 use Rattle.desk.specs.declared.Desk.{Desk}
 use Rattle.desk.specs.Desk.{hasFeed, Takes, isLeft, Fills, off, lines-left, at-end, reads, Turns, Turned, none-yet, turn-more}
@@ -37,7 +37,7 @@ answersIn (turn-more t on u) = answersIn t ++ u .took .text
 
 -- the start of a line that was dropped, since it is too long; or nothing was
 abbrev pub Dropped : Bool → List ℕ → Type 0
-Dropped true bytes = (16384 < length bytes) × (hasFeed bytes ≡ false)
+Dropped true bytes = (longestLine < length bytes) × (hasFeed bytes ≡ false)
 Dropped false bytes = bytes ≡ []
 
 -- all that was read is whole lines, which were taken from line 1 on a fresh book and answered one after the other; then the start of a

@@ -13,7 +13,7 @@ ghost use Prim.Native.Nat.{_-_, _≤_, _<_};
 ghost use lib.ListN.{length, take};
 ghost use Rattle.libc.specs.Io.{Moved};
 ghost use Rattle.book.specs.Book.{Reachable};
-ghost use Rattle.protocol.specs.Lines.{between};
+ghost use Rattle.protocol.specs.Lines.{longestLine, between};
 ghost use Rattle.desk.specs.Desk.{hasRoom, Holds, Took, atFront, Keeps, Closes, stopped, AfterRead, Reads, Fills, afterWrite, Flushes, Steady, Turns, atStart, Runs};
 use book::Book;
 use protocol::Said;
@@ -59,7 +59,7 @@ fn take_lines(
     numbers: &mut [u32],
     out: &mut [u8],
 ) -> Desk
-    requires { ⌜ Reachable b × Holds i (length (now input)) × (16384 ≤ length (now numbers)) ⌝ }
+    requires { ⌜ Reachable b × Holds i (length (now input)) × (longestLine ≤ length (now numbers)) ⌝ }
     ensures { λ r. ⌜ Took b lines i (now (input .entry)) (now (out .entry)) r (now (out .exit)) ⌝ }
 {
     let to = i.to;
@@ -274,7 +274,7 @@ fn start() -> Desk
 // Turn after turn, as long as the desk goes on; what it ends with. A proved loop has to end, and nothing says that the input does: so the
 // turns are counted down, from a number that no run uses up.
 fn run(input: &mut [u8], numbers: &mut [u32], out: &mut [u8]) -> Desk
-    requires { ⌜ (length (now input) ≡ 65536) × (length (now numbers) ≡ 16384) × (length (now out) ≡ 65536) ⌝ }
+    requires { ⌜ (length (now input) ≡ 65536) × (length (now numbers) ≡ longestLine) × (length (now out) ≡ 65536) ⌝ }
     ensures { λ r. ⌜ Runs (now (input .entry)) (now (out .entry)) r (now (input .exit)) (now (out .exit)) ⌝ }
 {
     let mut d = start();
@@ -288,7 +288,7 @@ fn run(input: &mut [u8], numbers: &mut [u32], out: &mut [u8]) -> Desk
 
 // A place for each number of a line.
 fn no_numbers() -> [u32; 16384]
-    ensures { λ r. ⌜ 16384 ≡ length r ⌝ }
+    ensures { λ r. ⌜ longestLine ≡ length r ⌝ }
 {
     [0; 16384]
 }

@@ -12,29 +12,16 @@ use Rattle.book.specs.Book.{step}
 use Rattle.book.specs.Calls.{sheetAt}
 use Rattle.queries.specs.Queries.{Telling, benchmarkOf, maximumOf, quoteOf}
 use Rattle.lines.specs.Words.{withoutReturn}
+use Rattle.request.specs.declared.Step.{Step}
+use Rattle.request.specs.declared.Step.the-variants.{Set, Put, Open, Close, Drop}
+use Rattle.request.specs.declared.Query.{Query}
+use Rattle.request.specs.declared.Query.the-variants.{Benchmark, Maximum, Quote}
 use Rattle.request.specs.declared.Word.{Word}
-use Rattle.request.specs.declared.Word.the-variants as word
+use Rattle.request.specs.declared.Word.the-variants.{Steps, Tells}
 use Rattle.request.specs.declared.Request.{Request}
-use Rattle.request.specs.declared.Request.the-variants.{Nothing, Call, Unknown, NotANumber, WrongCount}
-use Rattle.request.specs.Protocol.{requestOf, numbersOf}
+use Rattle.request.specs.declared.Request.the-variants.{Nothing, Asks, Unknown, NotANumber, WrongCount}
+use Rattle.request.specs.Requests.{requestOf, numbersOf}
 use Rattle.answers.specs.Answers.{answerText, toldText, tooLong, problemText}
-use Rattle.protocol.specs.declared.Step.{Step}
-use Rattle.protocol.specs.declared.Step.the-variants.{Set, Put, Open, Close, Drop}
-use Rattle.protocol.specs.declared.Query.{Query}
-use Rattle.protocol.specs.declared.Query.the-variants.{Benchmark, Maximum, Quote}
-use Rattle.protocol.specs.declared.Kind.{Kind}
-use Rattle.protocol.specs.declared.Kind.the-variants as kind
-
--- five words ask for a step and three for what the book tells
-abbrev pub kindOf : Word → Kind
-kindOf word.Set = kind.Steps Set
-kindOf word.Put = kind.Steps Put
-kindOf word.Open = kind.Steps Open
-kindOf word.Close = kind.Steps Close
-kindOf word.Drop = kind.Steps Drop
-kindOf word.Benchmark = kind.Tells Benchmark
-kindOf word.Maximum = kind.Tells Maximum
-kindOf word.Quote = kind.Tells Quote
 
 -- set YEAR MONTH T F0 F1 ..
 abbrev pub periodOf : List ℕ → Period
@@ -54,39 +41,43 @@ toldOf b Benchmark ns = benchmarkOf b (getD ns 0 0) (getD ns 1 0) (getD ns 2 0) 
 toldOf b Maximum ns = maximumOf b (getD ns 0 0) (getD ns 1 0) (getD ns 2 0) (getD ns 3 0)
 toldOf b Quote ns = quoteOf b (getD ns 0 0) (getD ns 1 0) (getD ns 2 0) (drop 3 ns)
 
--- the book after a line, and the text of its answer
-pub record Line : Type 0 where
+-- what a line leads to: the book after it, and the text of its answer
+pub record Outcome : Type 0 where
   pub book : Book
   pub text : List ℕ
 
-abbrev pub stepLine : Book → call.Call → Line
+abbrev pub stepLine : Book → call.Call → Outcome
 stepLine b c = record { book = step b c .book; text = answerText (step b c .answer) }
 
-abbrev pub toldLine : Book → Telling → Line
+abbrev pub toldLine : Book → Telling → Outcome
 toldLine b t = record { book = b; text = toldText t }
 
-abbrev pub callLine : Book → Kind → List ℕ → Line
-callLine b (kind.Steps s) ns = stepLine b (stepOf s ns)
-callLine b (kind.Tells q) ns = toldLine b (toldOf b q ns)
+abbrev pub callLine : Book → Word → List ℕ → Outcome
+callLine b (Steps s) ns = stepLine b (stepOf s ns)
+callLine b (Tells q) ns = toldLine b (toldOf b q ns)
 
 -- a line that is no call: "the book is untouched"
-abbrev pub problemLine : Book → ℕ → Request → Line
+abbrev pub problemLine : Book → ℕ → Request → Outcome
 problemLine b l q = record { book = b; text = problemText l q }
 
-abbrev pub requestLine : Book → ℕ → Request → List ℕ → Line
+abbrev pub requestLine : Book → ℕ → Request → List ℕ → Outcome
 requestLine b l Nothing ns = problemLine b l Nothing
-requestLine b l (Call w n) ns = callLine b (kindOf w) ns
+requestLine b l (Asks w n) ns = callLine b w ns
 requestLine b l Unknown ns = problemLine b l Unknown
 requestLine b l (NotANumber k) ns = problemLine b l (NotANumber k)
 requestLine b l (WrongCount w) ns = problemLine b l (WrongCount w)
 
--- line l without its line feed; `cut`: its start was dropped, since it has more than 16,384 bytes
-abbrev pub longLine : Book → ℕ → Line
+-- how many bytes a line may have, its line feed not counted
+abbrev pub longestLine : ℕ
+longestLine = 16384
+
+-- line l without its line feed; `cut`: its start was dropped, since it is too long
+abbrev pub longLine : Book → ℕ → Outcome
 longLine b l = record { book = b; text = tooLong l }
 
-unfoldable pub lineAt : Book → ℕ → (cut : Bool) → List ℕ → Line
+unfoldable pub lineAt : Book → ℕ → (cut : Bool) → List ℕ → Outcome
 lineAt b l cut bytes =
-    cond (cut || ltb 16384 (length bytes)) (longLine b l)
+    cond (cut || ltb longestLine (length bytes)) (longLine b l)
     (requestLine b l (requestOf (withoutReturn bytes)) (numbersOf (withoutReturn bytes)))
 
 -- the bytes of the input from one place to another

@@ -8,55 +8,23 @@ ghost use lib.ListN.{length};
 ghost use Rattle.book.specs.Book.{Reachable};
 ghost use Rattle.book.specs.Promises.{Does};
 ghost use Rattle.queries.specs.Queries.{tellingOf};
-ghost use Rattle.request.specs.Protocol.{requestOf, numbersOf};
-ghost use Rattle.protocol.specs.Lines.{kindOf, stepOf, toldOf, stepLine, requestLine, between, lineAt};
-ghost use Rattle.protocol.specs.Said.{StepCount, QueryCount, Answered, Says};
+ghost use Rattle.request.specs.Requests.{arity, RightCount, requestOf, numbersOf};
+ghost use Rattle.request.specs.declared.Word.the-variants.{Steps, Tells};
+ghost use Rattle.answers.specs.Writing.{answerRoom};
+ghost use Rattle.protocol.specs.Lines.{stepOf, toldOf, stepLine, requestLine, between, longestLine, lineAt};
+ghost use Rattle.protocol.specs.Promises.{Answered, Says};
 use book::Book;
 use book::Done;
 use calendar::Period;
 use queries::Told;
+use request::Query;
 use request::Request;
+use request::Step;
 use request::Word;
-
-// The five calls that may change the book.
-pub enum Step {
-    Set,
-    Put,
-    Open,
-    Close,
-    Drop,
-}
-
-// The three that tell of it.
-pub enum Query {
-    Benchmark,
-    Maximum,
-    Quote,
-}
-
-pub enum Kind {
-    Steps(Step),
-    Tells(Query),
-}
-
-fn kind_of(word: Word) -> Kind
-    ensures { λ r. ⌜ r ≡ kindOf word ⌝ }
-{
-    match word {
-        Word::Set => Kind::Steps(Step::Set),
-        Word::Put => Kind::Steps(Step::Put),
-        Word::Open => Kind::Steps(Step::Open),
-        Word::Close => Kind::Steps(Step::Close),
-        Word::Drop => Kind::Steps(Step::Drop),
-        Word::Benchmark => Kind::Tells(Query::Benchmark),
-        Word::Maximum => Kind::Tells(Query::Maximum),
-        Word::Quote => Kind::Tells(Query::Quote),
-    }
-}
 
 // A step with its numbers.
 fn stepped(b: Book, step: Step, numbers: &[u32]) -> Done
-    requires { ⌜ Reachable b × StepCount step (length (now numbers)) ⌝ }
+    requires { ⌜ Reachable b × RightCount (arity (Steps step)) (length (now numbers)) ⌝ }
     ensures { λ r. ⌜ Does b (stepOf step (now (numbers .entry))) r ⌝ }
 {
     match step {
@@ -77,7 +45,7 @@ fn stepped(b: Book, step: Step, numbers: &[u32]) -> Done
 
 // What the book tells.
 fn told(b: Book, query: Query, numbers: &[u32]) -> Told
-    requires { ⌜ Reachable b × QueryCount query (length (now numbers)) ⌝ }
+    requires { ⌜ Reachable b × RightCount (arity (Tells query)) (length (now numbers)) ⌝ }
     ensures { λ r. ⌜ tellingOf r ≡ toldOf b query (now (numbers .entry)) ⌝ }
 {
     match query {
@@ -95,17 +63,16 @@ pub enum Said {
 
 // Answers a line, without its line feed and the carriage return before it, unless it may change the book. l is its number.
 fn say(b: Book, line: &[u8], l: u64, numbers: &mut [u32], out: &mut [u8], at: usize) -> Said
-    requires { ⌜ Reachable b × (length (now line) ≤ length (now numbers)) × (at + 344 ≤ length (now out)) ⌝ }
+    requires { ⌜ Reachable b × (length (now line) ≤ length (now numbers)) × (at + answerRoom ≤ length (now out)) ⌝ }
     ensures { λ r. ⌜ Says r b (requestLine b l (requestOf (now (line .entry))) (numbersOf (now (line .entry)))) at (now (out .entry)) (now (out .exit)) (now (numbers .exit)) ⌝ }
 {
     let asked = request::request_of(line, numbers);
-    let Request::Call(word, n) = asked else {
+    let Request::Asks(word, n) = asked else {
         return Said::Answer(answers::put_problem(out, at, l, asked));
     };
-    let kind = kind_of(word);
-    match kind {
-        Kind::Steps(step) => Said::Do(step, n),
-        Kind::Tells(query) => {
+    match word {
+        Word::Steps(step) => Said::Do(step, n),
+        Word::Tells(query) => {
             let told = told(b, query, &numbers[..n]);
             Said::Answer(answers::put_told(out, at, told))
         }
@@ -124,7 +91,7 @@ pub fn say_line(
     out: &mut [u8],
     at: usize,
 ) -> Said
-    requires { ⌜ Reachable b × (from ≤ to) × (to ≤ length (now input)) × (16384 ≤ length (now numbers)) × (at + 344 ≤ length (now out)) ⌝ }
+    requires { ⌜ Reachable b × (from ≤ to) × (to ≤ length (now input)) × (longestLine ≤ length (now numbers)) × (at + answerRoom ≤ length (now out)) ⌝ }
     ensures { λ r. ⌜ Says r b (lineAt b l cut (between (now (input .entry)) from to)) at (now (out .entry)) (now (out .exit)) (now (numbers .exit)) ⌝ }
 {
     if cut {
@@ -145,7 +112,7 @@ pub struct After {
 
 // Does a step, and answers it.
 pub fn do_step(b: Book, step: Step, numbers: &[u32], out: &mut [u8], at: usize) -> After
-    requires { ⌜ Reachable b × StepCount step (length (now numbers)) × (at + 344 ≤ length (now out)) ⌝ }
+    requires { ⌜ Reachable b × RightCount (arity (Steps step)) (length (now numbers)) × (at + answerRoom ≤ length (now out)) ⌝ }
     ensures { λ r. ⌜ Answered (stepLine b (stepOf step (now (numbers .entry)))) (r .book) (now (out .entry)) at (r .at) (now (out .exit)) ⌝ }
 {
     let did = stepped(b, step, numbers);

@@ -4,9 +4,11 @@ use mathlib.Core.Path.{_≡_, refl}
 use mathlib.Core.List.{[], _∷_}
 use Rattle.lines.specs.Words.{parts, notEmpty, words}
 use Rattle.lines.specs.Numerals.{digits, valueAfter, value, numbersIn}
-use Rattle.request.specs.declared.Word.the-variants.{Set, Put, Open, Close, Drop, Benchmark, Maximum, Quote}
-use Rattle.request.specs.declared.Request.the-variants.{Nothing, Call, Unknown, NotANumber, WrongCount}
-use Rattle.request.specs.Protocol.{bytesOf, same, named, requestOf, numbersOf}
+use Rattle.request.specs.declared.Step.the-variants.{Set, Put, Open, Close, Drop}
+use Rattle.request.specs.declared.Query.the-variants.{Benchmark, Maximum, Quote}
+use Rattle.request.specs.declared.Word.the-variants.{Steps, Tells}
+use Rattle.request.specs.declared.Request.the-variants.{Nothing, Asks, Unknown, NotANumber, WrongCount}
+use Rattle.request.specs.Requests.{bytesOf, same, named, requestOf, numbersOf}
 
 blank : requestOf (bytesOf "   ") ≡ Nothing
 unfolding requestOf words parts notEmpty
@@ -17,7 +19,7 @@ unfolding requestOf words parts notEmpty
 comment = refl
 
 -- spaces before, between and behind the words, and leading zeros
-spaced : requestOf (bytesOf "  set  2024 04 3 ") ≡ Call Set 3
+spaced : requestOf (bytesOf "  set  2024 04 3 ") ≡ Asks (Steps Set) 3
 unfolding requestOf words parts notEmpty same named numbersIn digits valueAfter value
 spaced = refl
 
@@ -25,7 +27,7 @@ spaced-numbers : numbersOf (bytesOf "  set  2024 04 3 ") ≡ 2024 ∷ 4 ∷ 3 �
 unfolding numbersOf words parts notEmpty valueAfter value
 spaced-numbers = refl
 
-greatest : requestOf (bytesOf "put 004294967295") ≡ Call Put 1
+greatest : requestOf (bytesOf "put 004294967295") ≡ Asks (Steps Put) 1
 unfolding requestOf words parts notEmpty same named numbersIn digits valueAfter value
 greatest = refl
 
@@ -42,26 +44,26 @@ signed : requestOf (bytesOf "open -1 2") ≡ NotANumber 2
 unfolding requestOf words parts notEmpty same named numbersIn digits valueAfter value
 signed = refl
 
-two : requestOf (bytesOf "open 1 2") ≡ WrongCount Open
+two : requestOf (bytesOf "open 1 2") ≡ WrongCount (Steps Open)
 unfolding requestOf words parts notEmpty same named numbersIn digits valueAfter value
 two = refl
 
-closed : requestOf (bytesOf "close 1") ≡ Call Close 1
+closed : requestOf (bytesOf "close 1") ≡ Asks (Steps Close) 1
 unfolding requestOf words parts notEmpty same named numbersIn digits valueAfter value
 closed = refl
 
-dropped : requestOf (bytesOf "drop 1") ≡ Call Drop 1
+dropped : requestOf (bytesOf "drop 1") ≡ Asks (Steps Drop) 1
 unfolding requestOf words parts notEmpty same named numbersIn digits valueAfter value
 dropped = refl
 
-asked : requestOf (bytesOf "benchmark 13 1 0 1") ≡ Call Benchmark 4
+asked : requestOf (bytesOf "benchmark 13 1 0 1") ≡ Asks (Tells Benchmark) 4
 unfolding requestOf words parts notEmpty same named numbersIn digits valueAfter value
 asked = refl
 
-short : requestOf (bytesOf "maximum 13 1 0") ≡ WrongCount Maximum
+short : requestOf (bytesOf "maximum 13 1 0") ≡ WrongCount (Tells Maximum)
 unfolding requestOf words parts notEmpty same named numbersIn digits valueAfter value
 short = refl
 
-quoted : requestOf (bytesOf "quote 7 0 1") ≡ Call Quote 3
+quoted : requestOf (bytesOf "quote 7 0 1") ≡ Asks (Tells Quote) 3
 unfolding requestOf words parts notEmpty same named numbersIn digits valueAfter value
 quoted = refl

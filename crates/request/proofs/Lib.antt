@@ -1,4 +1,3 @@
 pub mod Names
-pub mod Asking
-pub mod Calls
+pub mod Requests
 pub mod Examples

@@ -1,1 +1,1 @@
-pub mod Protocol
+pub mod Requests

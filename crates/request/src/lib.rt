@@ -1,28 +1,53 @@
 // Which call a line asks for: one of the eight with its numbers, or why the line is no call.
-// Promise: `request_of` answers what specs/Protocol.antt, the desk's protocol, says of every line of bytes, and leaves a call's numbers in
-// order. `Standing` is what the layer above may use of a call: the count is right for it, and its numbers stand there.
+// Promise: `request_of` answers what specs/Requests.antt, the desk's protocol, says of every line of bytes, and leaves a call's numbers in
+// order. `Standing` is what the layer above may use of a call: the count is right for it, and its numbers stand there. A call is its
+// case here, its name and arity in `form_of`, and its place in `all_calls`; all that reads or writes it goes by these.
 ghost use mathlib.Core.Path.{_≡_};
 ghost use Prim.Native.Nat.{_≤_};
-ghost use lib.ListN.{length};
-ghost use Rattle.request.specs.Protocol.{calls, named, takes, requestOf, Standing};
+ghost use lib.ListN.{length, take};
+ghost use Rattle.request.specs.Requests.{calls, nameOf, arity, rightCount, FormOf, named, requestOf, Standing};
 use lines::Numbers;
 
-pub enum Word {
+// The calls that may change the book.
+pub enum Step {
     Set,
     Put,
     Open,
     Close,
     Drop,
+}
+
+// The calls that tell of it.
+pub enum Query {
     Benchmark,
     Maximum,
     Quote,
+}
+
+// A call's own word.
+pub enum Word {
+    Steps(Step),
+    Tells(Query),
+}
+
+// How many numbers a call takes.
+pub enum Arity {
+    Exactly(usize),
+    AtLeast(usize),
+}
+
+// How a call is written: its name, which is the first `size` of these bytes, and how many numbers it takes.
+pub struct Form {
+    pub name: [u8; 9],
+    pub size: usize,
+    pub arity: Arity,
 }
 
 pub enum Request {
     // No word, or a comment.
     Nothing,
     // A call, and how many numbers it has.
-    Call(Word, usize),
+    Asks(Word, usize),
     // The first word is no call's name.
     Unknown,
     // The first word that should be a number and is none; the call's own word is word 1.
@@ -36,49 +61,75 @@ enum Named {
     None,
 }
 
+fn formed(name: [u8; 9], size: usize, arity: Arity) -> Form
+    requires { ⌜ size ≤ 9 ⌝ }
+    ensures { λ r. ⌜ FormOf (take size name) arity r ⌝ }
+{
+    Form { name, size, arity }
+}
+
+// The form of each call.
+pub fn form_of(word: Word) -> Form
+    ensures { λ r. ⌜ FormOf (nameOf word) (arity word) r ⌝ }
+{
+    match word {
+        Word::Steps(step) => match step {
+            Step::Set => formed(*b"set      ", 3, Arity::AtLeast(3)),
+            Step::Put => formed(*b"put      ", 3, Arity::AtLeast(1)),
+            Step::Open => formed(*b"open     ", 4, Arity::Exactly(1)),
+            Step::Close => formed(*b"close    ", 5, Arity::Exactly(1)),
+            Step::Drop => formed(*b"drop     ", 4, Arity::Exactly(1)),
+        },
+        Word::Tells(query) => match query {
+            Query::Benchmark => formed(*b"benchmark", 9, Arity::Exactly(4)),
+            Query::Maximum => formed(*b"maximum  ", 7, Arity::Exactly(4)),
+            Query::Quote => formed(*b"quote    ", 5, Arity::AtLeast(3)),
+        },
+    }
+}
+
+fn all_calls() -> [Word; 8]
+    ensures { λ r. ⌜ r ≡ calls ⌝ }
+{
+    [
+        Word::Steps(Step::Set),
+        Word::Steps(Step::Put),
+        Word::Steps(Step::Open),
+        Word::Steps(Step::Close),
+        Word::Steps(Step::Drop),
+        Word::Tells(Query::Benchmark),
+        Word::Tells(Query::Maximum),
+        Word::Tells(Query::Quote),
+    ]
+}
+
 fn call_named(word: &[u8]) -> Named
     ensures { λ r. ⌜ r ≡ named calls (now (word .entry)) ⌝ }
 {
-    if check::same(word, b"set") {
-        return Named::By(Word::Set);
-    }
-    if check::same(word, b"put") {
-        return Named::By(Word::Put);
-    }
-    if check::same(word, b"open") {
-        return Named::By(Word::Open);
-    }
-    if check::same(word, b"close") {
-        return Named::By(Word::Close);
-    }
-    if check::same(word, b"drop") {
-        return Named::By(Word::Drop);
-    }
-    if check::same(word, b"benchmark") {
-        return Named::By(Word::Benchmark);
-    }
-    if check::same(word, b"maximum") {
-        return Named::By(Word::Maximum);
-    }
-    if check::same(word, b"quote") {
-        return Named::By(Word::Quote);
+    let all = all_calls();
+    let mut i: usize = 0;
+    while i < 8 {
+        let call = all[i];
+        let form = form_of(call);
+        let name = form.name;
+        let size = form.size;
+        if check::same(word, &name[..size]) {
+            return Named::By(call);
+        }
+        i += 1;
     }
     Named::None
 }
 
 // Whether a call takes n numbers.
 fn right_count(word: Word, n: usize) -> bool
-    ensures { λ r. ⌜ r ≡ takes word n ⌝ }
+    ensures { λ r. ⌜ r ≡ rightCount (arity word) n ⌝ }
 {
-    match word {
-        Word::Set => 3 <= n,
-        Word::Put => 1 <= n,
-        Word::Open => n == 1,
-        Word::Close => n == 1,
-        Word::Drop => n == 1,
-        Word::Benchmark => n == 4,
-        Word::Maximum => n == 4,
-        Word::Quote => 3 <= n,
+    let form = form_of(word);
+    let arity = form.arity;
+    match arity {
+        Arity::Exactly(k) => n == k,
+        Arity::AtLeast(k) => k <= n,
     }
 }
 
@@ -105,7 +156,7 @@ pub fn request_of(line: &[u8], numbers: &mut [u32]) -> Request
         Numbers::Bad(k) => Request::NotANumber(k + 2),
         Numbers::All(n) => {
             if right_count(word, n) {
-                Request::Call(word, n)
+                Request::Asks(word, n)
             } else {
                 Request::WrongCount(word)
             }

@@ -10,7 +10,7 @@ use borrow.Author.Needs.{needs}
 use borrow.Fn.Kinds.{In}
 use borrow.Fn.PlainCycle.{Measures, is, falls, and}
 use Rattle.answers.proofs.Decimal.{decimal-small, decimal-more, length-more}
-use Rattle.answers.proofs.Writing.{byte-behind}
+use Rattle.answers.proofs.Writing.{puts-byte}
 use Rattle.answers.proofs.digits_at.Reads as digits-at
 use Rattle.answers.proofs.digits_at.Kinds as digits-at-kinds
 use Rattle.answers.proofs.+digits_at.Lts-digits_at as digits-at-lts
@@ -126,7 +126,7 @@ digits-at-returns-2 :
     digits-at.Post
 digits-at-returns-2 t c =
     let st = c .before .before .before .before .before .before in
-    rw (decimal-more (st .args .n) (omega arith)) (byte-behind _ (omega (arith, length-more (st .args .n) (omega arith), c .before .before .digits-at .ensures .ends)) (c .before .before .digits-at .ensures))
+    rw (decimal-more (st .args .n) (omega arith)) (puts-byte _ (omega (arith, length-more (st .args .n) (omega arith), c .before .before .digits-at .ensures .ends)) (c .before .before .digits-at .ensures))
 
 pub +digits-at-spec : {M : Type 1} → statement M
 +digits-at-spec =

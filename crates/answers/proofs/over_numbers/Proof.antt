@@ -1,120 +1,97 @@
--- `answers::over_numbers` meets its contract: a list of 12 months is its 12 numbers.
+-- `answers::over_numbers` meets its contract: at each turn the months up to `i` stand behind the first four numbers.
 -- Assumes nothing.
-use mathlib.Core.Path.{sym, ap}
-use mathlib.Core.List.{_∷_}
+use mathlib.Core.Path.{_≡_, refl, _∙_, ap}
+use Prim.Native.Nat.{_+_, _-_, _≤_}
+use native.Mathlib.Omega.{arith}
 use mir.Syntax.{w32}
 use lib.Dec.{lit<}
+use lib.ListN.{length, getD, set, take}
+use lib.Seq.{sets, take-all}
 use borrow.Kind.Array.{eInt, good-length}
 use borrow.Author.Needs.{needs}
-use Rattle.laws.specs.Notions.{tabulate, tabulateFrom}
-use Rattle.answers.proofs.Writing.{listed}
+use Rattle.answers.proofs.Writing.{copy-more, sets-end}
 use Rattle.answers.proofs.over_numbers.Statement.{statement}
 use Rattle.answers.proofs.over_numbers.Tie as tie
 
-array-read-t10 : tie.Need-array-read-t10
-array-read-t10 c = lit< tt
+abbrev Inv-loop : tie.InvT-loop
+Inv-loop region method excess months numbers₀ i₀ numbers i = (i ≤ 12) × (numbers ≡ sets numbers₀ 4 (take i months))
 
-cast-t11 : tie.Need-cast-t11
-cast-t11 c = search needs
+abbrev μ-loop : tie.MeasureT-loop
+μ-loop region method excess months numbers₀ i₀ numbers i = 12 - i
 
-array-read-t14 : tie.Need-array-read-t14
-array-read-t14 c = lit< tt
+twelve : (c : tie.Start Inv-loop μ-loop) → length (c .args .t4) ≡ 12
+twelve c = good-length (eInt w32) 12 (c .args .t4) _ (c .good .1 .1 .1 .0)
 
-cast-t15 : tie.Need-cast-t15
-cast-t15 c = search needs
+array-write-numbers : tie.Need-array-write-numbers Inv-loop μ-loop
+array-write-numbers c = lit< tt
 
-array-read-t18 : tie.Need-array-read-t18
-array-read-t18 c = lit< tt
+array-write-numbers-2 : tie.Need-array-write-numbers-2 Inv-loop μ-loop
+array-write-numbers-2 c = lit< tt
 
-cast-t19 : tie.Need-cast-t19
-cast-t19 c = search needs
+array-write-numbers-3 : tie.Need-array-write-numbers-3 Inv-loop μ-loop
+array-write-numbers-3 c = lit< tt
 
-array-read-t22 : tie.Need-array-read-t22
-array-read-t22 c = lit< tt
+array-write-numbers-4 : tie.Need-array-write-numbers-4 Inv-loop μ-loop
+array-write-numbers-4 c = lit< tt
 
-cast-t23 : tie.Need-cast-t23
-cast-t23 c = search needs
+loop-holds : tie.Need-loop-holds Inv-loop μ-loop
+loop-holds c = (omega arith, refl)
 
-array-read-t26 : tie.Need-array-read-t26
-array-read-t26 c = lit< tt
+mul-numbers : tie.Need-mul-numbers Inv-loop μ-loop
+mul-numbers c = search needs
 
-cast-t27 : tie.Need-cast-t27
-cast-t27 c = search needs
+array-read-numbers : tie.Need-array-read-numbers Inv-loop μ-loop
+array-read-numbers c = search needs
 
-array-read-t30 : tie.Need-array-read-t30
-array-read-t30 c = lit< tt
+cast-numbers : tie.Need-cast-numbers Inv-loop μ-loop
+cast-numbers c = search needs
 
-cast-t31 : tie.Need-cast-t31
-cast-t31 c = search needs
+add-numbers : tie.Need-add-numbers Inv-loop μ-loop
+add-numbers c = search needs
 
-array-read-t34 : tie.Need-array-read-t34
-array-read-t34 c = lit< tt
+mul-numbers-2 : tie.Need-mul-numbers-2 Inv-loop μ-loop
+mul-numbers-2 c = search needs
 
-cast-t35 : tie.Need-cast-t35
-cast-t35 c = search needs
+array-write-numbers-5 : tie.Need-array-write-numbers-5 Inv-loop μ-loop
+array-write-numbers-5 c = search needs
 
-array-read-t38 : tie.Need-array-read-t38
-array-read-t38 c = lit< tt
+add-i : tie.Need-add-i Inv-loop μ-loop
+add-i c = search needs
 
-cast-t39 : tie.Need-cast-t39
-cast-t39 c = search needs
+loop-less : tie.Need-loop-less Inv-loop μ-loop
+loop-less c = search needs
 
-array-read-t42 : tie.Need-array-read-t42
-array-read-t42 c = lit< tt
+loop-again : tie.Need-loop-again Inv-loop μ-loop
+loop-again c =
+    let i = c .before .loop .i in
+    let months = c .before .before .args .t4 in
+    (omega (arith, c .loop-test .taken), ap (λ l. set l (4 + i) (getD months i 0)) (c .before .loop .inv .1) ∙ copy-more _ months 4 i (omega (arith, twelve (c .before .before), c .loop-test .taken)))
 
-cast-t43 : tie.Need-cast-t43
-cast-t43 c = search needs
-
-array-read-t46 : tie.Need-array-read-t46
-array-read-t46 c = lit< tt
-
-cast-t47 : tie.Need-cast-t47
-cast-t47 c = search needs
-
-array-read-t50 : tie.Need-array-read-t50
-array-read-t50 c = lit< tt
-
-cast-t51 : tie.Need-cast-t51
-cast-t51 c = search needs
-
-array-read-t54 : tie.Need-array-read-t54
-array-read-t54 c = lit< tt
-
-cast-t55 : tie.Need-cast-t55
-cast-t55 c = search needs
-
-returns : tie.Need-returns
-unfolding tabulate tabulateFrom
+returns : tie.Need-returns Inv-loop μ-loop
 returns c =
-    let months = listed 12 (c .args .t4) (good-length (eInt w32) 12 (c .args .t4) _ (c .good .1 .1 .1 .0)) in
-    ap (λ xs. 11 ∷ c .args .region ∷ c .args .method ∷ c .args .excess ∷ xs) (sym months)
+    let n = twelve (c .before .before) in
+    c .before .loop .inv .1
+    ∙ ap (sets _ 4) (take-all (c .before .loop .i) (c .before .before .args .t4) (omega (arith, n, c .loop-test .left)))
+    ∙ sets-end _ (c .before .before .args .t4) 4 (omega (arith, n))
 
 pub over-numbers-spec : {M : Type 1} → statement M
 over-numbers-spec =
     tie.close
     (tie.spec
-    array-read-t10
-    cast-t11
-    array-read-t14
-    cast-t15
-    array-read-t18
-    cast-t19
-    array-read-t22
-    cast-t23
-    array-read-t26
-    cast-t27
-    array-read-t30
-    cast-t31
-    array-read-t34
-    cast-t35
-    array-read-t38
-    cast-t39
-    array-read-t42
-    cast-t43
-    array-read-t46
-    cast-t47
-    array-read-t50
-    cast-t51
-    array-read-t54
-    cast-t55
+    Inv-loop
+    μ-loop
+    array-write-numbers
+    array-write-numbers-2
+    array-write-numbers-3
+    array-write-numbers-4
+    loop-holds
+    mul-numbers
+    array-read-numbers
+    cast-numbers
+    add-numbers
+    mul-numbers-2
+    array-write-numbers-5
+    add-i
+    loop-less
+    loop-again
     returns)

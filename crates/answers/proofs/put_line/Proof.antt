@@ -2,8 +2,8 @@
 -- Assumes nothing.
 use mathlib.Core.Path.{refl, _∙_}
 use native.Mathlib.Omega.{arith}
-use Rattle.answers.specs.Answers.{line}
-use Rattle.answers.proofs.Writing.{behind}
+use Rattle.answers.specs.Answers.{answerLine}
+use Rattle.answers.proofs.Writing.{puts-behind}
 use Rattle.answers.proofs.put_line.Statement.{statement}
 use Rattle.answers.proofs.put_line.Tie as tie
 
@@ -23,8 +23,8 @@ same-length : tie.Need-same-length
 same-length c = c .before .before .put-text2 .kept .0 ∙ c .before .before .before .before .before .before .before .put-numbers .kept .0 ∙ c .before .before .before .before .before .before .before .before .before .before .before .put-text .kept .0
 
 returns : tie.Need-returns
-unfolding line
-returns c = behind (behind (c .before .before .before .before .before .before .before .before .before .before .before .put-text .ensures) (c .before .before .before .before .before .before .before .put-numbers .ensures .0)) (c .before .before .put-text2 .ensures)
+unfolding answerLine
+returns c = puts-behind (puts-behind (c .before .before .before .before .before .before .before .before .before .before .before .put-text .ensures) (c .before .before .before .before .before .before .before .put-numbers .ensures .0)) (c .before .before .put-text2 .ensures)
 
 pub put-line-spec : {M : Type 1} → statement M
 put-line-spec =

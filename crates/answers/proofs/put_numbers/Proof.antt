@@ -6,22 +6,22 @@ use native.Mathlib.Omega.{arith}
 use lib.ListN.{length, take, length-set}
 use lib.Seq.{take-all}
 use borrow.Author.Needs.{needs}
-use Rattle.answers.specs.Writing.{Written}
+use Rattle.answers.specs.Writing.{Puts}
 use Rattle.answers.specs.Answers.{spaced}
-use Rattle.answers.proofs.Writing.{behind, byte-behind, spaced-more, nothing}
+use Rattle.answers.proofs.Writing.{puts-behind, puts-byte, spaced-more, puts-none}
 use Rattle.answers.proofs.put_numbers.Statement.{statement}
 use Rattle.answers.proofs.put_numbers.Tie as tie
 
 abbrev Inv-loop : tie.InvT-loop
 Inv-loop out₀ at numbers next₀ i₀ out next i =
-    (i ≤ length numbers) × (length out ≡ length out₀) × (next ≤ at + 21 * i) × Written out₀ at (spaced (take i numbers)) next out
+    (i ≤ length numbers) × (length out ≡ length out₀) × (next ≤ at + 21 * i) × Puts out₀ at (spaced (take i numbers)) next out
 
 abbrev μ-loop : tie.MeasureT-loop
 μ-loop out₀ at numbers next₀ i₀ out next i = length numbers - i
 
 loop-holds : tie.Need-loop-holds Inv-loop μ-loop
 unfolding spaced
-loop-holds c = (omega arith, refl, omega arith, nothing _ _ (omega arith))
+loop-holds c = (omega arith, refl, omega arith, puts-none _ _ (omega arith))
 
 slice-write-out : tie.Need-slice-write-out Inv-loop μ-loop
 slice-write-out c = omega arith
@@ -53,7 +53,7 @@ loop-again c =
       omega arith,
       w .kept .0 ∙ length-set (p .loop .out) (p .loop .next) 32 ∙ p .loop .inv .1,
       omega (arith, w .ensures .1),
-      rw (spaced-more s (p .loop .i) (omega arith)) (behind (byte-behind 32 (omega arith) (p .loop .inv .3)) (w .ensures .0)),
+      rw (spaced-more s (p .loop .i) (omega arith)) (puts-behind (puts-byte 32 (omega arith) (p .loop .inv .3)) (w .ensures .0)),
     )
 
 same-length : tie.Need-same-length Inv-loop μ-loop

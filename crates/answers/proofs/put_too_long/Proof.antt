@@ -1,24 +1,26 @@
 -- `answers::put_too_long` meets its contract.
 -- Assumes nothing.
-use mathlib.Core.Path.{refl}
-use native.Mathlib.Omega.{arith}
-use Rattle.answers.specs.Answers.{errorText}
+use Rattle.answers.proofs.Writing.{puts-behind}
+use borrow.Author.Needs.{needs}
 use Rattle.answers.proofs.put_too_long.Statement.{statement}
 use Rattle.answers.proofs.put_too_long.Tie as tie
 
-slice-aggregate-put-error : tie.Need-slice-aggregate-put-error
-slice-aggregate-put-error c = refl
-
 put-error-requires : tie.Need-put-error-requires
-put-error-requires c κs = omega arith
+put-error-requires c κs = search needs
+
+slice-aggregate-put-text : tie.Need-slice-aggregate-put-text
+slice-aggregate-put-text c = search needs
+
+put-text-requires : tie.Need-put-text-requires
+put-text-requires c κs = search needs
 
 same-length : tie.Need-same-length
-same-length c = c .before .before .put-error .kept .0
+same-length c = search needs
 
 returns : tie.Need-returns
-unfolding errorText
-returns c = c .before .before .put-error .ensures .0
+returns c = puts-behind (c .before .before .before .before .before .before .before .put-error .ensures .0) (c .before .before .put-text .ensures)
 
 pub put-too-long-spec : {M : Type 1} → statement M
 put-too-long-spec =
-    tie.close (tie.spec slice-aggregate-put-error put-error-requires same-length returns)
+    tie.close
+    (tie.spec put-error-requires slice-aggregate-put-text put-text-requires same-length returns)

@@ -34,9 +34,9 @@ some got i input zero e h = absurd (h refl)
 some got i input (suc n) e h = rw e (refl, refl)
 
 -- an answer that is no failure is the number of bytes read
-counted : (got : ℤ) (most : ℕ) → ltZ got (pos 0) ≡ false → Moved most got → got ≡ pos (clamped got most)
-counted (pos n) most t m = ap pos (sym (min-eq-left m))
-counted (negsuc n) most t m = never (cc)
+got-count : (got : ℤ) (most : ℕ) → ltZ got (pos 0) ≡ false → Moved most got → got ≡ pos (clamped got most)
+got-count (pos n) most t m = ap pos (sym (min-eq-left m))
+got-count (negsuc n) most t m = never (cc)
 
 -- what `count` counted
 count-is : (c : tie.After-count) → let st = c .before .before .before .before .before in c .count .result ≡ clamped (st .args .got) (length (st .args .input .now) - st .args .i .to)
@@ -50,7 +50,7 @@ count-is c =
 got-is : (c : tie.After-count) → c .before .before .before .before .before .args .got ≡ pos (c .count .result)
 got-is c =
     let st = c .before .before .before .before .before in
-    counted (st .args .got) (length (st .args .input .now) - st .args .i .to) (rw (toZ-ofZ (st .fits .got)) at (c .before .before .before .if1 .left)) (st .pre .1)
+    got-count (st .args .got) (length (st .args .input .now) - st .args .i .to) (rw (toZ-ofZ (st .fits .got)) at (c .before .before .before .if1 .left)) (st .pre .1)
     ∙ ap pos (sym (count-is c))
 
 stop-requires : tie.Need-stop-requires

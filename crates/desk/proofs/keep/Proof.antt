@@ -5,6 +5,7 @@ use Prim.Native.Nat.{_-_}
 use native.Mathlib.Omega.{arith}
 use borrow.Author.Tests.{lt-ltb, le-ltb}
 use borrow.Author.Needs.{needs}
+use Rattle.protocol.specs.Lines.{longestLine}
 use Rattle.desk.proofs.keep.Statement.{statement}
 use Rattle.desk.proofs.keep.Tie as tie
 
@@ -26,7 +27,7 @@ returns-2 : tie.Need-returns-2
 returns-2 c =
     let e = c .at-front2 .ensures in
     let i = c .before .before .before .before .args .i in
-    record { long = rw (e, c .before .before .if1 .left, lt-ltb 16384 (i .to - i .from) (omega arith)) refl; input = rw e refl; bytes = rw e refl; size = refl }
+    record { long = rw (e, c .before .before .if1 .left, lt-ltb longestLine (i .to - i .from) (omega arith)) refl; input = rw e refl; bytes = rw e refl; size = refl }
 
 to-front-requires : tie.Need-to-front-requires
 to-front-requires c κs = search needs
@@ -44,7 +45,7 @@ returns-3 : tie.Need-returns-3
 returns-3 c =
     let e = c .at-front3 .ensures in
     let i = c .before .before .before .before .before .before .before .before .args .i in
-    record { long = rw (e, c .before .before .before .before .before .before .if1 .left, le-ltb 16384 (i .to - i .from) (omega arith)) refl; input = rw e refl; bytes = rw e (c .before .before .before .to-front .ensures); size = search needs }
+    record { long = rw (e, c .before .before .before .before .before .before .if1 .left, le-ltb longestLine (i .to - i .from) (omega arith)) refl; input = rw e refl; bytes = rw e (c .before .before .before .to-front .ensures); size = search needs }
 
 pub keep-spec : {M : Type 1} → statement M
 keep-spec =

@@ -71,7 +71,7 @@ returns c =
       size = into-size p;
       bytes = into-bytes p;
       moved = into-moved p;
-      answered = rw (toZ-ofZ (sfits-of (p .read .ok))) at (c .before .before .after-read .ensures);
+      handled = rw (toZ-ofZ (sfits-of (p .read .ok))) at (c .before .before .after-read .ensures);
     }
 
 pub read-more-spec : {M : Type 1} → statement M

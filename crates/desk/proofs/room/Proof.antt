@@ -7,6 +7,7 @@ use native.Mathlib.Omega.{arith}
 use lib.Dec.{leb, ltb}
 use borrow.Author.Tests.{ltb-true, ltb-false, lt-ltb, le-ltb, le-leb, lt-leb}
 use Rattle.laws.proofs.Answers.{goes, stays}
+use Rattle.answers.specs.Writing.{answerRoom}
 use Rattle.desk.proofs.room.Statement.{statement}
 use Rattle.desk.proofs.room.Tie as tie
 
@@ -21,17 +22,17 @@ next-number l = go (ltb l 18446744073709551615) refl
 returns : tie.Need-returns
 returns c =
     let a = c .before .args in
-    stays (leb (a .at + 344) (a .size)) (ltb (a .l + 1) (2 ^ 64)) false (sym (lt-leb (a .at + 344) (a .size) (omega arith))) refl
+    stays (leb (a .at + answerRoom) (a .size)) (ltb (a .l + 1) (2 ^ 64)) false (sym (lt-leb (a .at + answerRoom) (a .size) (omega arith))) refl
 
 returns-2 : tie.Need-returns-2
 returns-2 c =
     let a = c .before .before .args in
-    stays (leb (a .at + 344) (a .size)) (ltb (a .l + 1) (2 ^ 64)) false (sym (lt-leb (a .at + 344) (a .size) (omega arith))) refl
+    stays (leb (a .at + answerRoom) (a .size)) (ltb (a .l + 1) (2 ^ 64)) false (sym (lt-leb (a .at + answerRoom) (a .size) (omega arith))) refl
 
 returns-3 : tie.Need-returns-3
 returns-3 c =
     let a = c .before .before .args in
-    goes (leb (a .at + 344) (a .size)) (ltb (a .l + 1) (2 ^ 64)) true _ (sym (le-leb (a .at + 344) (a .size) (omega arith))) refl (next-number (a .l))
+    goes (leb (a .at + answerRoom) (a .size)) (ltb (a .l + 1) (2 ^ 64)) true _ (sym (le-leb (a .at + answerRoom) (a .size) (omega arith))) refl (next-number (a .l))
 
 pub room-spec : {M : Type 1} → statement M
 room-spec = tie.close (tie.spec returns returns-2 returns-3)

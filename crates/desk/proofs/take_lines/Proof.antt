@@ -8,10 +8,11 @@ use native.Mathlib.Omega.{arith}
 use lib.ListN.{length}
 use lib.Seq.{length-take-le}
 use borrow.Author.Tests.{ltb-true}
-use Rattle.answers.proofs.Writing.{kept}
+use Rattle.answers.specs.Writing.{answerRoom}
+use Rattle.answers.proofs.Writing.{puts-size}
 use Rattle.protocol.specs.declared.Said.the-variants.{Do}
-use Rattle.protocol.specs.Lines.{Line, lineAt, between}
-use Rattle.protocol.specs.Said.{Answered, Says}
+use Rattle.protocol.specs.Lines.{Outcome, lineAt, between}
+use Rattle.protocol.specs.Promises.{Answered, Says}
 use Rattle.desk.specs.Desk.{hasRoom}
 use Rattle.desk.proofs.Taking.{feed-left, room-yes, Sofar, sofar-none, sofar-more}
 use Rattle.desk.proofs.take_lines.Statement.{statement}
@@ -30,7 +31,7 @@ asked : (c : tie.After-known-told2 Inv-loop μ-loop)
 asked c = rw (c .before .said2 .given .1) at (c .before .before .before .before .before .before .before .say-line .ensures)
 
 -- the line that a turn takes
-abbrev line-of : tie.At-match-came Inv-loop μ-loop → Line
+abbrev line-of : tie.At-match-came Inv-loop μ-loop → Outcome
 line-of c =
     let p = c .before .before .before .before .before .before .before .before .before .before .before in
     lineAt (p .loop .book) (p .loop .l + 1) (p .loop .cut) (between (c .before .before .before .before .before .before .before .before .before .before .before .before .before .before .before .before .args .input .now) (p .loop .from) (p .loop .end))
@@ -48,7 +49,7 @@ line-done c =
     (c .match .came)
 
 -- room for its answer
-room-for : (c : tie.After-room Inv-loop μ-loop) → c .room .result ≡ true → (c .before .before .loop .at + 344 ≤ length (c .before .before .loop .out)) × (c .before .before .loop .l + 1 < 2 ^ 64)
+room-for : (c : tie.After-room Inv-loop μ-loop) → c .room .result ≡ true → (c .before .before .loop .at + answerRoom ≤ length (c .before .before .loop .out)) × (c .before .before .loop .l + 1 < 2 ^ 64)
 room-for c e = room-yes _ _ _ (sym (c .room .ensures) ∙ e)
 
 line-end-requires : tie.Need-line-end-requires Inv-loop μ-loop
@@ -103,7 +104,7 @@ loop-again c =
     let st = c .before .before .before .before .before .before .before .before .before .before .before .before .before .before .before .before .before in
     let done = line-done (c .before) in (
       c .before .before .before .before .before .before .say-line .kept .1 .1 .1 .1 .1 .1 .0 ∙ p .loop .inv .0,
-      kept (done .text) ∙ p .loop .inv .1,
+      puts-size (done .text) ∙ p .loop .inv .1,
       sofar-more _ _ (st .args .i) (st .args .input .now) (st .args .out .now) (st .pre .1 .inside) _ _ _ _ _ _ _ _ _ _ _ (p .loop .inv .2) (c .before .before .before .before .before .before .before .before .before .before .before .loop-test .taken) (done .book) (done .reachable) (done .text)
           (c .line-end2 .ensures .1 .0) (c .line-end2 .ensures .1 .1) (c .line-end2 .ensures .0),
     )
@@ -124,7 +125,7 @@ returns c =
     record {
       text = s .text;
       takes = s .takes;
-      written = s .written;
+      puts = s .puts;
       reachable = s .reachable;
       holds = record { ordered = omega (arith, s .order, s .inside); inside = st .pre .1 .inside };
       passed = s .passed;

@@ -40,7 +40,7 @@ returns c =
       record {
         reachable = t .reachable;
         holds = rw (c .before .before .before .before .before .before .before .before .before .before .before .fill .kept .1 .0) at (t .holds);
-        waiting = t .written .within;
+        waiting = t .puts .within;
         input-size = p .input-size;
         numbers-size = p .numbers-size;
         out-size = p .out-size;

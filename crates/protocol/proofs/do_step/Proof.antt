@@ -1,6 +1,6 @@
 -- `protocol::do_step` meets its contract.
 -- Assumes nothing.
-use Rattle.protocol.proofs.Saying.{step-done}
+use Rattle.protocol.proofs.Lines.{step-done}
 use Rattle.protocol.proofs.do_step.Statement.{statement}
 use Rattle.protocol.proofs.do_step.Tie as tie
 

@@ -1,10 +1,10 @@
--- `protocol::say` meets its contract: a problem, a step or a query, by the request and its kind.
+-- `protocol::say` meets its contract: a problem, a step or a query, by the request and its word.
 -- Assumes nothing.
-use mathlib.Core.Path.{refl, sym, _∙_}
+use mathlib.Core.Path.{refl, sym}
 use lib.Seq.{length-take-le}
 use borrow.Author.Needs.{needs}
-use Rattle.request.specs.Protocol.{Ready}
-use Rattle.protocol.proofs.Saying.{says-problem, says-step, says-told, count-of}
+use Rattle.request.specs.Requests.{Ready}
+use Rattle.protocol.proofs.Lines.{says-problem, says-step, says-told}
 use Rattle.protocol.proofs.say.Statement.{statement}
 use Rattle.protocol.proofs.say.Tie as tie
 
@@ -30,23 +30,22 @@ same-length-2 c = search needs
 returns : tie.Need-returns
 returns c = says-problem _ (c .before .before .before .before .before .before .before .before .before .before .before .before .pre .0) _ _ (c .before .before .before .before .before .before .before .request-of .last .1 .0) _ _ _ (c .before .before .before .before .before .before .before .request-of .result) _ (c .before .before .before .before .before .before .before .request-of .ensures .0) (c .before .before .before .before .match .keys2) (c .before .before .put-problem .ensures)
 
-kind-of-requires : tie.Need-kind-of-requires
-kind-of-requires c κs = search needs
+enum-known-word : tie.Need-enum-known-word
+enum-known-word c = search needs
 
-enum-known-kind : tie.Need-enum-known-kind
-enum-known-kind c = search needs
-
-enum-known-kind-2 : tie.Need-enum-known-kind-2
-enum-known-kind-2 c = search needs
+enum-known-word-2 : tie.Need-enum-known-word-2
+enum-known-word-2 c = search needs
 
 slice-reshare-prefix-told : tie.Need-slice-reshare-prefix-told
-slice-reshare-prefix-told c = ready (c .before .before .before .before) .within
+slice-reshare-prefix-told c = ready (c .before .before .before) .within
 
 slice-aggregate-told : tie.Need-slice-aggregate-told
-slice-aggregate-told c = sym (length-take-le _ _ (ready (c .before .before .before .before .before) .within))
+slice-aggregate-told c = sym (length-take-le _ _ (ready (c .before .before .before .before) .within))
 
 told-requires : tie.Need-told-requires
-told-requires c κs = (c .before .before .before .before .before .before .before .before .before .before .before .before .before .before .before .pre .0, rw (length-take-le (c .before .before .before .before .before .before .asked .given .0 .1 .0) (c .before .before .before .before .before .before .before .before .before .before .request-of .last .1 .0) (ready (c .before .before .before .before .before) .within)) (count-of (c .before .before .before .before .before .before .asked .given .0 .0) _ _ (sym (c .before .before .before .before .kind-of .ensures) ∙ c .before .before .kind2 .given .1) (ready (c .before .before .before .before .before) .right)))
+told-requires c κs =
+    let r = ready (c .before .before .before .before) in
+    (c .before .before .before .before .before .before .before .before .before .before .before .before .before .before .pre .0, rw (length-take-le (c .before .before .before .before .before .asked .given .0 .1 .0) (c .before .before .before .before .before .before .before .before .before .request-of .last .1 .0) (r .within)) (rw (c .before .before .word2 .given .1) at (r .right)))
 
 put-told-requires : tie.Need-put-told-requires
 put-told-requires c κs = search needs
@@ -55,7 +54,7 @@ same-length-3 : tie.Need-same-length-3
 same-length-3 c = search needs
 
 returns-2 : tie.Need-returns-2
-returns-2 c = says-step _ (c .before .before .before .before .before .before .before .before .before .before .before .before .before .before .pre .0) _ _ _ (c .before .before .before .before .before .before .before .before .before .before .before .before .before .before .args .at) _ _ _ _ _ _ (c .before .before .before .before .before .before .before .before .before .request-of .ensures .0) (c .before .before .before .before .before .asked .given .1) (sym (c .before .before .before .kind-of .ensures) ∙ c .before .kind .given .1) (ready (c .before .before .before .before)) refl
+returns-2 c = says-step _ (c .before .before .before .before .before .before .before .before .before .before .before .before .before .pre .0) _ _ _ (c .before .before .before .before .before .before .before .before .before .before .before .before .before .args .at) _ _ _ _ _ _ (c .before .before .before .before .before .before .before .before .request-of .ensures .0) (c .before .before .before .before .asked .given .1) (c .before .word .given .1) (ready (c .before .before .before)) refl
 
 same-length-4 : tie.Need-same-length-4
 same-length-4 c = search needs
@@ -64,7 +63,7 @@ same-length-5 : tie.Need-same-length-5
 same-length-5 c = search needs
 
 returns-3 : tie.Need-returns-3
-returns-3 c = says-told _ (c .before .before .before .before .before .before .before .before .before .before .before .before .before .before .before .before .before .before .before .before .pre .0) _ _ _ _ _ _ _ _ _ _ _ _ (c .before .before .before .before .before .before .before .before .before .before .before .before .before .before .before .request-of .ensures .0) (c .before .before .before .before .before .before .before .before .before .before .before .asked .given .1) (sym (c .before .before .before .before .before .before .before .before .before .kind-of .ensures) ∙ c .before .before .before .before .before .before .before .kind2 .given .1) (ready (c .before .before .before .before .before .before .before .before .before .before)) (c .before .before .before .before .told .ensures) (c .before .before .put-told .ensures)
+returns-3 c = says-told _ (c .before .before .before .before .before .before .before .before .before .before .before .before .before .before .before .before .before .before .before .pre .0) _ _ _ _ _ _ _ _ _ _ _ _ (c .before .before .before .before .before .before .before .before .before .before .before .before .before .before .request-of .ensures .0) (c .before .before .before .before .before .before .before .before .before .before .asked .given .1) (c .before .before .before .before .before .before .before .word2 .given .1) (ready (c .before .before .before .before .before .before .before .before .before)) (c .before .before .before .before .told .ensures) (c .before .before .put-told .ensures)
 
 pub say-spec : {M : Type 1} → statement M
 say-spec =
@@ -76,9 +75,8 @@ say-spec =
     same-length
     same-length-2
     returns
-    kind-of-requires
-    enum-known-kind
-    enum-known-kind-2
+    enum-known-word
+    enum-known-word-2
     slice-reshare-prefix-told
     slice-aggregate-told
     told-requires

@@ -7,8 +7,8 @@ use lib.ListN.{length, take, drop, length-drop}
 use Rattle.lines.specs.declared.Numbers.{Numbers}
 use Rattle.lines.specs.Numerals.{Written}
 use Rattle.request.specs.declared.Named.the-variants.{By}
-use Rattle.request.specs.Protocol.{calls, named}
-use Rattle.request.proofs.Asking.{FirstWord, asks-nothing, asks-comment, asks-unknown, asks-bad, asks-call, asks-wrong, ready}
+use Rattle.request.specs.Requests.{calls, named}
+use Rattle.request.proofs.Requests.{FirstWord, asks-nothing, asks-comment, asks-unknown, asks-bad, asks-call, asks-wrong, ready}
 use borrow.Author.Needs.{needs}
 use Rattle.request.proofs.request_of.Statement.{statement}
 use Rattle.request.proofs.request_of.Tie as tie

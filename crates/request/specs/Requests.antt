@@ -12,31 +12,64 @@ use Rattle.lines.specs.declared.Numbers.{Numbers}
 use Rattle.lines.specs.declared.Numbers.the-variants.{All, Bad}
 use Rattle.lines.specs.Words.{words}
 use Rattle.lines.specs.Numerals.{value, numbersIn}
+use Rattle.request.specs.declared.Step.the-variants.{Set, Put, Open, Close, Drop}
+use Rattle.request.specs.declared.Query.the-variants.{Benchmark, Maximum, Quote}
 use Rattle.request.specs.declared.Word.{Word}
-use Rattle.request.specs.declared.Word.the-variants.{Set, Put, Open, Close, Drop, Benchmark, Maximum, Quote}
+use Rattle.request.specs.declared.Word.the-variants.{Steps, Tells}
+use Rattle.request.specs.declared.Arity.{Arity}
+use Rattle.request.specs.declared.Arity.the-variants.{Exactly, AtLeast}
+use Rattle.request.specs.declared.Form.{Form}
 use Rattle.request.specs.declared.Named.{Named}
 use Rattle.request.specs.declared.Named.the-variants.{By, None}
 use Rattle.request.specs.declared.Request.{Request}
-use Rattle.request.specs.declared.Request.the-variants.{Nothing, Call, Unknown, NotANumber, WrongCount}
+use Rattle.request.specs.declared.Request.the-variants.{Nothing, Asks, Unknown, NotANumber, WrongCount}
 
 -- the bytes of a text
 abbrev pub bytesOf : String → List ℕ
 bytesOf []ᵗ = []
 bytesOf (c ∷ᵗ s) = code c ∷ bytesOf s
 
-abbrev pub nameOf : Word → List ℕ
-nameOf Set = bytesOf "set"
-nameOf Put = bytesOf "put"
-nameOf Open = bytesOf "open"
-nameOf Close = bytesOf "close"
-nameOf Drop = bytesOf "drop"
-nameOf Benchmark = bytesOf "benchmark"
-nameOf Maximum = bytesOf "maximum"
-nameOf Quote = bytesOf "quote"
-
--- the eight calls
+-- the eight calls: five steps of the book, and three that it tells of
 abbrev pub calls : List Word
-calls = Set ∷ Put ∷ Open ∷ Close ∷ Drop ∷ Benchmark ∷ Maximum ∷ Quote ∷ []
+calls = Steps Set ∷ Steps Put ∷ Steps Open ∷ Steps Close ∷ Steps Drop ∷ Tells Benchmark ∷ Tells Maximum ∷ Tells Quote ∷ []
+
+abbrev pub nameOf : Word → List ℕ
+nameOf (Steps Set) = bytesOf "set"
+nameOf (Steps Put) = bytesOf "put"
+nameOf (Steps Open) = bytesOf "open"
+nameOf (Steps Close) = bytesOf "close"
+nameOf (Steps Drop) = bytesOf "drop"
+nameOf (Tells Benchmark) = bytesOf "benchmark"
+nameOf (Tells Maximum) = bytesOf "maximum"
+nameOf (Tells Quote) = bytesOf "quote"
+
+-- how many numbers a call takes
+abbrev pub arity : Word → Arity
+arity (Steps Set) = AtLeast 3
+arity (Steps Put) = AtLeast 1
+arity (Steps Open) = Exactly 1
+arity (Steps Close) = Exactly 1
+arity (Steps Drop) = Exactly 1
+arity (Tells Benchmark) = Exactly 4
+arity (Tells Maximum) = Exactly 4
+arity (Tells Quote) = AtLeast 3
+
+-- whether n numbers are as many
+abbrev pub rightCount : Arity → ℕ → Bool
+rightCount (Exactly k) n = eqb n k
+rightCount (AtLeast k) n = leb k n
+
+-- the same as a fact (proofs/Requests.antt, `counted`)
+abbrev pub RightCount : Arity → ℕ → Type 0
+RightCount (Exactly k) n = n ≡ k
+RightCount (AtLeast k) n = k ≤ n
+
+-- a form with this name and this arity
+pub record FormOf (name : List ℕ) (a : Arity) (f : Form) : Type 0 where
+  pub text : take (f .size) (f .name) ≡ name
+  pub within : f .size ≤ length (f .name)
+  pub most : length (f .name) ≡ 9
+  pub count : f .arity ≡ a
 
 -- whether two lists of bytes are the same
 unfoldable pub same : List ℕ → List ℕ → Bool
@@ -50,22 +83,11 @@ unfoldable pub named : List Word → List ℕ → Named
 named [] w = None
 named (c ∷ cs) w = cond (same w (nameOf c)) (By c) (named cs w)
 
--- whether a call takes n numbers
-abbrev pub takes : Word → ℕ → Bool
-takes Set n = leb 3 n
-takes Put n = leb 1 n
-takes Open n = eqb n 1
-takes Close n = eqb n 1
-takes Drop n = eqb n 1
-takes Benchmark n = eqb n 4
-takes Maximum n = eqb n 4
-takes Quote n = leb 3 n
-
 -- the rest of the line, once its first word is known: "unknown call"; "word K is not a number", the call's own word being word 1; and the count
 abbrev pub askedBy : Named → Numbers → Request
 askedBy None ns = Unknown
 askedBy (By c) (Bad k) = NotANumber (k + 2)
-askedBy (By c) (All n) = cond (takes c n) (Call c n) (WrongCount c)
+askedBy (By c) (All n) = cond (rightCount (arity c) n) (Asks c n) (WrongCount c)
 
 -- "A line with no word, and a line whose first word begins with `#`, is passed over."
 abbrev pub askedIn : List (List ℕ) → Request
@@ -83,27 +105,16 @@ behindFirst (w ∷ ws) = ws
 unfoldable pub numbersOf : List ℕ → List ℕ
 numbersOf line = map value (behindFirst (words line))
 
--- what that says of n, as a caller wants it (proofs/Asking.antt, `counted`)
-abbrev pub RightCount : Word → ℕ → Type 0
-RightCount Set n = 3 ≤ n
-RightCount Put n = 1 ≤ n
-RightCount Open n = n ≡ 1
-RightCount Close n = n ≡ 1
-RightCount Drop n = n ≡ 1
-RightCount Benchmark n = n ≡ 4
-RightCount Maximum n = n ≡ 4
-RightCount Quote n = 3 ≤ n
-
--- a call is ready: it has as many numbers as it takes, and they stand first in `numbers`, in order (proofs/Calls.antt)
+-- a call is ready: it has as many numbers as it takes, and they stand first in `numbers`, in order
 pub record Ready (w : Word) (n : ℕ) (line numbers : List ℕ) : Type 0 where
-  pub right : RightCount w n
+  pub right : RightCount (arity w) n
   pub within : n ≤ length numbers
   pub stand : take n numbers ≡ numbersOf line
 
 -- what stands in `numbers` behind an answer
 abbrev pub Standing : Request → List ℕ → List ℕ → Type 0
 Standing Nothing line numbers = Unit {0}
-Standing (Call w n) line numbers = Ready w n line numbers
+Standing (Asks w n) line numbers = Ready w n line numbers
 Standing Unknown line numbers = Unit {0}
 Standing (NotANumber k) line numbers = Unit {0}
 Standing (WrongCount w) line numbers = Unit {0}

@@ -14,21 +14,16 @@ use Rattle.lines.specs.Words.{parts, notEmpty, words, wordIn, spaces}
 use Rattle.lines.specs.Numerals.{value, numbersIn}
 use Rattle.lines.proofs.Splitting.{first-word, first-byte, words-spaces, spaces-none}
 use Rattle.request.specs.declared.Word.{Word}
-use Rattle.request.specs.declared.Word.the-variants.{Set, Put, Open, Close, Drop, Benchmark, Maximum, Quote}
+use Rattle.request.specs.declared.Arity.{Arity}
+use Rattle.request.specs.declared.Arity.the-variants.{Exactly, AtLeast}
 use Rattle.request.specs.declared.Named.the-variants.{By, None}
-use Rattle.request.specs.declared.Request.the-variants.{Nothing, Call, Unknown, NotANumber, WrongCount}
-use Rattle.request.specs.Protocol.{calls, named, takes, askedBy, requestOf, numbersOf, RightCount, Ready}
+use Rattle.request.specs.declared.Request.the-variants.{Nothing, Asks, Unknown, NotANumber, WrongCount}
+use Rattle.request.specs.Requests.{calls, arity, rightCount, RightCount, named, askedBy, requestOf, numbersOf, Ready}
 
--- the count of a call is right
-pub counted : (w : Word) (n : ℕ) → takes w n ≡ true → RightCount w n
-counted Set n e = leb-true 3 n e
-counted Put n e = leb-true 1 n e
-counted Open n e = eqb-true n 1 e
-counted Close n e = eqb-true n 1 e
-counted Drop n e = eqb-true n 1 e
-counted Benchmark n e = eqb-true n 4 e
-counted Maximum n e = eqb-true n 4 e
-counted Quote n e = leb-true 3 n e
+-- the count is right
+counted : (a : Arity) (n : ℕ) → rightCount a n ≡ true → RightCount a n
+counted (Exactly k) n e = eqb-true n k e
+counted (AtLeast k) n e = leb-true k n e
 
 -- the first word begins at `start`
 module _ (line : List ℕ) (start : ℕ) (q : start ≡ 0 + spaces (drop 0 line)) where
@@ -83,12 +78,12 @@ module _ {line : List ℕ} {start end : ℕ} (f : FirstWord line start end) wher
     asks-bad b = sym (asked ∙ rw (sym a, sym b))
 
     module _ {n : ℕ} (b : All n ≡ numbersIn (words (drop end line))) where
-      pub asks-call : takes w n ≡ true → Call w n ≡ requestOf line
+      pub asks-call : rightCount (arity w) n ≡ true → Asks w n ≡ requestOf line
       asks-call t = sym (asked ∙ rw (sym a, sym b, t))
 
-      pub asks-wrong : takes w n ≡ false → WrongCount w ≡ requestOf line
+      pub asks-wrong : rightCount (arity w) n ≡ false → WrongCount w ≡ requestOf line
       asks-wrong t = sym (asked ∙ rw (sym a, sym b, t))
 
-  pub ready : (w : Word) (n : ℕ) (out : List ℕ) → takes w n ≡ true → n ≤ length out → take n out ≡ map value (words (drop end line)) → Ready w n line out
+  pub ready : (w : Word) (n : ℕ) (out : List ℕ) → rightCount (arity w) n ≡ true → n ≤ length out → take n out ≡ map value (words (drop end line)) → Ready w n line out
   unfolding numbersOf
-  ready w n out t m s = record { right = counted w n t; within = m; stand = s ∙ rw two-parts }
+  ready w n out t m s = record { right = counted (arity w) n t; within = m; stand = s ∙ rw two-parts }

@@ -1,0 +1,91 @@
+-- Laws of what is said to a line, case by case.
+-- Assumes nothing.
+use mathlib.Core.Path.{_≡_, refl, sym, _∙_, ap, subst}
+use mathlib.Core.Bool.{Bool, true, false}
+use mathlib.Core.List.{List, [], _∷_}
+use Prim.Native.Nat.{ℕ, _<_, _≤_}
+use types.Run.{OneOf, miss}
+use denote.Enum.Declared.{tagOf}
+use lib.ListN.{length, take}
+use borrow.Author.Tests.{lt-ltb, le-ltb}
+use Rattle.book.specs.declared.Book.{Book}
+use Rattle.book.specs.declared.Done.{Done}
+use Rattle.book.specs.Calls as call
+use Rattle.book.specs.Book.{Reachable}
+use Rattle.book.specs.Promises.{answerOf, Does}
+use Rattle.book.proofs.Reached.{does-reachable}
+use Rattle.queries.specs.Queries.{Telling}
+use Rattle.lines.specs.Words.{withoutReturn}
+use Rattle.request.specs.declared.Step.{Step}
+use Rattle.request.specs.declared.Query.{Query}
+use Rattle.request.specs.declared.Word.{Word}
+use Rattle.request.specs.declared.Word.the-variants.{Steps, Tells}
+use Rattle.request.specs.declared.Request.{Request}
+use Rattle.request.specs.declared.Request.the-variants.{Nothing, Asks, Unknown, NotANumber, WrongCount}
+use Rattle.request.proofs.Request.{the-type}
+use Rattle.request.specs.Requests.{requestOf, numbersOf, Ready}
+use Rattle.answers.specs.Writing.{Puts}
+use Rattle.answers.specs.Answers.{answerText, toldText, problemText}
+use Rattle.protocol.specs.declared.Said.the-variants.{Answer, Do}
+use Rattle.protocol.specs.Lines.{toldOf, stepLine, callLine, problemLine, requestLine, longestLine, longLine, lineAt}
+use Rattle.protocol.specs.Promises.{Answered, Says}
+
+-- a request that is no call
+no-call : (b : Book) (l : ℕ) (q : Request) (ns : List ℕ) → OneOf (0 ∷ 2 ∷ 3 ∷ 4 ∷ []) (tagOf the-type q)
+    → requestLine b l q ns ≡ problemLine b l q
+no-call b l Nothing ns k = refl
+no-call b l (Asks w n) ns k = absurd (miss (0 ∷ 2 ∷ 3 ∷ 4 ∷ []) 1 tt k)
+no-call b l Unknown ns k = refl
+no-call b l (NotANumber n) ns k = refl
+no-call b l (WrongCount w) ns k = refl
+
+module _ (b : Book) (reach : Reachable b) (l : ℕ) (line numbers : List ℕ) (at : ℕ) (before after : List ℕ) where
+  pub says-problem : (q : Request) (next : ℕ) → q ≡ requestOf line → OneOf (0 ∷ 2 ∷ 3 ∷ 4 ∷ []) (tagOf the-type q)
+      → Puts before at (problemText l q) next after
+      → Says (Answer next) b (requestLine b l (requestOf line) (numbersOf line)) at before after numbers
+  says-problem q next e k w =
+      subst (λ x. Says (Answer next) b x at before after numbers)
+      (sym (ap (λ x. requestLine b l x (numbersOf line)) (sym e) ∙ no-call b l q (numbersOf line) k))
+      (record { book = refl; reachable = reach; text = w })
+
+  line-is : (q : Request) (w : Word) (n : ℕ) → q ≡ requestOf line → q ≡ Asks w n → Ready w n line numbers
+      → requestLine b l (requestOf line) (numbersOf line) ≡ callLine b w (take n numbers)
+  line-is q w n asked asks ready = ap (λ x. requestLine b l x (numbersOf line)) (sym asked ∙ asks) ∙ ap (callLine b w) (sym (ready .stand))
+
+  pub says-step : (q : Request) (w : Word) (n : ℕ) (s : Step) → q ≡ requestOf line → q ≡ Asks w n → w ≡ Steps s → Ready w n line numbers → after ≡ before
+      → Says (Do s n) b (requestLine b l (requestOf line) (numbersOf line)) at before after numbers
+  says-step q w n s asked asks steps ready same =
+      (rw steps at (line-is q w n asked asks ready), ready .within, rw steps at (ready .right), same)
+
+  pub says-told : (q : Request) (w : Word) (n : ℕ) (t : Query) (told : Telling) (next : ℕ) → q ≡ requestOf line → q ≡ Asks w n → w ≡ Tells t → Ready w n line numbers
+      → told ≡ toldOf b t (take n numbers) → Puts before at (toldText told) next after
+      → Says (Answer next) b (requestLine b l (requestOf line) (numbersOf line)) at before after numbers
+  says-told q w n t told next asked asks tells ready e puts =
+      subst (λ x. Says (Answer next) b x at before after numbers)
+      (sym (rw tells at (line-is q w n asked asks ready)))
+      (record { book = refl; reachable = reach; text = rw e at puts })
+
+-- a line that is too long, and one that is not
+module _ (b : Book) (l : ℕ) (cut : Bool) (bytes : List ℕ) where
+  pub cut-line : cut ≡ true → lineAt b l cut bytes ≡ longLine b l
+  unfolding lineAt
+  cut-line e = rw e refl
+
+  pub long-line : cut ≡ false → longestLine < length bytes → lineAt b l cut bytes ≡ longLine b l
+  unfolding lineAt
+  long-line e h = rw (e, lt-ltb longestLine (length bytes) h) refl
+
+  pub short-line : cut ≡ false → length bytes ≤ longestLine
+      → lineAt b l cut bytes ≡ requestLine b l (requestOf (withoutReturn bytes)) (numbersOf (withoutReturn bytes))
+  unfolding lineAt
+  short-line e h = rw (e, le-ltb longestLine (length bytes) h) refl
+
+-- a step that was done is what its line asks for
+pub step-done : (b : Book) (c : call.Call) (did : Done) (before : List ℕ) (at next : ℕ) (after : List ℕ) → Does b c did → Reachable b
+    → Puts before at (answerText (answerOf (did .reply) (did .months))) next after → Answered (stepLine b c) (did .book) before at next after
+step-done b c did before at next after does r w =
+    record {
+      book = does .leaves;
+      reachable = does-reachable r does;
+      text = rw (← does .answers) w;
+    }

@@ -7,9 +7,8 @@ use lib.Dec.{ltb}
 use lib.ListN.{length, getD, take, drop}
 use Rattle.calendar.specs.declared.Period.{Period}
 use Rattle.book.specs.declared.Book.{Book}
-use Rattle.book.specs.Calls as call
+use Rattle.book.specs.Calls.{sheetAt, Act, SET, PUT, OPEN, CLOSE, DROP, Call, call}
 use Rattle.book.specs.Book.{step}
-use Rattle.book.specs.Calls.{sheetAt}
 use Rattle.queries.specs.Queries.{Telling, benchmarkOf, maximumOf, quoteOf}
 use Rattle.lines.specs.Words.{withoutReturn}
 use Rattle.request.specs.declared.Step.{Step}
@@ -28,12 +27,12 @@ abbrev pub periodOf : List ℕ → Period
 periodOf ns = record { year = getD ns 0 0; month = getD ns 1 0; months = getD ns 2 0 }
 
 -- the step that is asked for with these numbers
-abbrev pub stepOf : Step → List ℕ → call.Call
-stepOf Set ns = call.SET (sheetAt (drop 3 ns) (periodOf ns))
-stepOf Put ns = call.PUT (getD ns 0 0) (drop 1 ns)
-stepOf Open ns = call.OPEN (getD ns 0 0)
-stepOf Close ns = call.CLOSE (getD ns 0 0)
-stepOf Drop ns = call.DROP (getD ns 0 0)
+abbrev pub stepOf : Step → List ℕ → Act
+stepOf Set ns = SET (sheetAt (drop 3 ns) (periodOf ns))
+stepOf Put ns = PUT (getD ns 0 0) (drop 1 ns)
+stepOf Open ns = OPEN (getD ns 0 0)
+stepOf Close ns = CLOSE (getD ns 0 0)
+stepOf Drop ns = DROP (getD ns 0 0)
 
 -- what the book tells to these numbers
 abbrev pub toldOf : Book → Query → List ℕ → Telling
@@ -42,25 +41,25 @@ toldOf b Maximum ns = maximumOf b (getD ns 0 0) (getD ns 1 0) (getD ns 2 0) (get
 toldOf b Quote ns = quoteOf b (getD ns 0 0) (getD ns 1 0) (getD ns 2 0) (drop 3 ns)
 
 -- what a line leads to: the book after it, and the text of its answer
-pub record Outcome : Type 0 where
+pub record Response : Type 0 where
   pub book : Book
   pub text : List ℕ
 
-abbrev pub stepLine : Book → call.Call → Outcome
+abbrev pub stepLine : Book → Call → Response
 stepLine b c = record { book = step b c .book; text = answerText (step b c .answer) }
 
-abbrev pub toldLine : Book → Telling → Outcome
+abbrev pub toldLine : Book → Telling → Response
 toldLine b t = record { book = b; text = toldText t }
 
-abbrev pub callLine : Book → Word → List ℕ → Outcome
-callLine b (Steps s) ns = stepLine b (stepOf s ns)
+abbrev pub callLine : Book → Word → List ℕ → Response
+callLine b (Steps s) ns = stepLine b (call (stepOf s ns))
 callLine b (Tells q) ns = toldLine b (toldOf b q ns)
 
 -- a line that is no call: "the book is untouched"
-abbrev pub problemLine : Book → ℕ → Request → Outcome
+abbrev pub problemLine : Book → ℕ → Request → Response
 problemLine b l q = record { book = b; text = problemText l q }
 
-abbrev pub requestLine : Book → ℕ → Request → List ℕ → Outcome
+abbrev pub requestLine : Book → ℕ → Request → List ℕ → Response
 requestLine b l Nothing ns = problemLine b l Nothing
 requestLine b l (Asks w n) ns = callLine b w ns
 requestLine b l Unknown ns = problemLine b l Unknown
@@ -72,10 +71,10 @@ abbrev pub longestLine : ℕ
 longestLine = 16384
 
 -- line l without its line feed; `cut`: its start was dropped, since it is too long
-abbrev pub longLine : Book → ℕ → Outcome
+abbrev pub longLine : Book → ℕ → Response
 longLine b l = record { book = b; text = tooLong l }
 
-unfoldable pub lineAt : Book → ℕ → (cut : Bool) → List ℕ → Outcome
+unfoldable pub lineAt : Book → ℕ → (cut : Bool) → List ℕ → Response
 lineAt b l cut bytes =
     cond (cut || ltb longestLine (length bytes)) (longLine b l)
     (requestLine b l (requestOf (withoutReturn bytes)) (numbersOf (withoutReturn bytes)))

@@ -5,6 +5,7 @@
 ghost use mathlib.Core.Path.{_≡_};
 ghost use Prim.Native.Nat.{_+_, _≤_};
 ghost use lib.ListN.{length};
+ghost use Rattle.book.specs.Calls.{call};
 ghost use Rattle.book.specs.Book.{Reachable};
 ghost use Rattle.book.specs.Promises.{Does};
 ghost use Rattle.queries.specs.Queries.{tellingOf};
@@ -16,6 +17,7 @@ ghost use Rattle.protocol.specs.Promises.{Answered, Says};
 use book::Book;
 use book::Done;
 use calendar::Period;
+use codes::CodeAct;
 use queries::Told;
 use request::Query;
 use request::Request;
@@ -25,7 +27,7 @@ use request::Word;
 // A step with its numbers.
 fn stepped(b: Book, step: Step, numbers: &[u32]) -> Done
     requires { ⌜ Reachable b × RightCount (arity (Steps step)) (length (now numbers)) ⌝ }
-    ensures { λ r. ⌜ Does b (stepOf step (now (numbers .entry))) r ⌝ }
+    ensures { λ r. ⌜ Does b (call (stepOf step (now (numbers .entry)))) r ⌝ }
 {
     match step {
         Step::Set => {
@@ -36,10 +38,10 @@ fn stepped(b: Book, step: Step, numbers: &[u32]) -> Done
             };
             setting::set(b, &numbers[3..], period)
         }
-        Step::Put => book::put(b, numbers[0], &numbers[1..]),
-        Step::Open => opening::open(b, numbers[0]),
-        Step::Close => book::close(b, numbers[0]),
-        Step::Drop => book::drop(b, numbers[0]),
+        Step::Put => codes::put(b, numbers[0], &numbers[1..]),
+        Step::Open => codes::act_on(b, numbers[0], CodeAct::Open),
+        Step::Close => codes::act_on(b, numbers[0], CodeAct::Close),
+        Step::Drop => codes::act_on(b, numbers[0], CodeAct::Drop),
     }
 }
 
@@ -113,7 +115,7 @@ pub struct After {
 // Does a step, and answers it.
 pub fn do_step(b: Book, step: Step, numbers: &[u32], out: &mut [u8], at: usize) -> After
     requires { ⌜ Reachable b × RightCount (arity (Steps step)) (length (now numbers)) × (at + answerRoom ≤ length (now out)) ⌝ }
-    ensures { λ r. ⌜ Answered (stepLine b (stepOf step (now (numbers .entry)))) (r .book) (now (out .entry)) at (r .at) (now (out .exit)) ⌝ }
+    ensures { λ r. ⌜ Answered (stepLine b (call (stepOf step (now (numbers .entry))))) (r .book) (now (out .entry)) at (r .at) (now (out .exit)) ⌝ }
 {
     let did = stepped(b, step, numbers);
     let reply = did.reply;

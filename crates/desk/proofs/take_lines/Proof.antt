@@ -11,7 +11,7 @@ use borrow.Author.Tests.{ltb-true}
 use Rattle.answers.specs.Writing.{answerRoom}
 use Rattle.answers.proofs.Writing.{puts-size}
 use Rattle.protocol.specs.declared.Said.the-variants.{Do}
-use Rattle.protocol.specs.Lines.{Outcome, lineAt, between}
+use Rattle.protocol.specs.Lines.{Response, lineAt, between}
 use Rattle.protocol.specs.Promises.{Answered, Says}
 use Rattle.desk.specs.Desk.{hasRoom}
 use Rattle.desk.proofs.Taking.{feed-left, room-yes, Sofar, sofar-none, sofar-more}
@@ -31,7 +31,7 @@ asked : (c : tie.After-known-told2 Inv-loop μ-loop)
 asked c = rw (c .before .said2 .given .1) at (c .before .before .before .before .before .before .before .say-line .ensures)
 
 -- the line that a turn takes
-abbrev line-of : tie.At-match-came Inv-loop μ-loop → Outcome
+abbrev line-of : tie.At-match-came Inv-loop μ-loop → Response
 line-of c =
     let p = c .before .before .before .before .before .before .before .before .before .before .before in
     lineAt (p .loop .book) (p .loop .l + 1) (p .loop .cut) (between (c .before .before .before .before .before .before .before .before .before .before .before .before .before .before .before .before .args .input .now) (p .loop .from) (p .loop .end))

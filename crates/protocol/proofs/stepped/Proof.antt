@@ -59,29 +59,29 @@ put-requires c κs = search needs
 enum-told-3 : tie.Need-enum-told-3
 enum-told-3 c = c .match .keys3
 
-shared-slice-read-open : tie.Need-shared-slice-read-open
-shared-slice-read-open c = omega (arith, rw (c .before .enum-told3 .given .1) at (c .before .before .before .before .pre .1))
+shared-slice-read-act-on : tie.Need-shared-slice-read-act-on
+shared-slice-read-act-on c = omega (arith, rw (c .before .enum-told3 .given .1) at (c .before .before .before .before .pre .1))
 
-open-requires : tie.Need-open-requires
-open-requires c κs = search needs
+act-on-requires : tie.Need-act-on-requires
+act-on-requires c κs = search needs
 
 enum-told-4 : tie.Need-enum-told-4
 enum-told-4 c = c .match .keys4
 
-shared-slice-read-close : tie.Need-shared-slice-read-close
-shared-slice-read-close c = omega (arith, rw (c .before .enum-told4 .given .1) at (c .before .before .before .before .pre .1))
+shared-slice-read-act-on-2 : tie.Need-shared-slice-read-act-on-2
+shared-slice-read-act-on-2 c = omega (arith, rw (c .before .enum-told4 .given .1) at (c .before .before .before .before .pre .1))
 
-close-requires : tie.Need-close-requires
-close-requires c κs = search needs
+act-on-requires-2 : tie.Need-act-on-requires-2
+act-on-requires-2 c κs = search needs
 
 enum-told-5 : tie.Need-enum-told-5
 enum-told-5 c = c .match .keys5
 
-shared-slice-read-drop : tie.Need-shared-slice-read-drop
-shared-slice-read-drop c = omega (arith, rw (c .before .enum-told5 .given .1) at (c .before .before .before .before .pre .1))
+shared-slice-read-act-on-3 : tie.Need-shared-slice-read-act-on-3
+shared-slice-read-act-on-3 c = omega (arith, rw (c .before .enum-told5 .given .1) at (c .before .before .before .before .pre .1))
 
-drop-requires : tie.Need-drop-requires
-drop-requires c κs = search needs
+act-on-requires-3 : tie.Need-act-on-requires-3
+act-on-requires-3 c κs = search needs
 
 returns : tie.Need-returns
 returns c = rw (c .before .before .before .before .before .enum-told .given .1) (rw (rest 3 (c .before .before .before .before .before .before .before .before .args .numbers .now)) at (c .set .ensures))
@@ -90,13 +90,13 @@ returns-2 : tie.Need-returns-2
 returns-2 c = rw (c .before .before .before .enum-told2 .given .1) (rw (rest 1 (c .before .before .before .before .before .before .args .numbers .now)) at (c .put .ensures))
 
 returns-3 : tie.Need-returns-3
-returns-3 c = rw (c .before .before .enum-told3 .given .1) (c .«open» .ensures)
+returns-3 c = rw (c .before .before .enum-told3 .given .1) (c .act-on .ensures)
 
 returns-4 : tie.Need-returns-4
-returns-4 c = rw (c .before .before .enum-told4 .given .1) (c .close .ensures)
+returns-4 c = rw (c .before .before .enum-told4 .given .1) (c .act-on2 .ensures)
 
 returns-5 : tie.Need-returns-5
-returns-5 c = rw (c .before .before .enum-told5 .given .1) (c .drop .ensures)
+returns-5 c = rw (c .before .before .enum-told5 .given .1) (c .act-on3 .ensures)
 
 pub stepped-spec : {M : Type 1} → statement M
 stepped-spec =
@@ -117,14 +117,14 @@ stepped-spec =
     part-put-end
     put-requires
     enum-told-3
-    shared-slice-read-open
-    open-requires
+    shared-slice-read-act-on
+    act-on-requires
     enum-told-4
-    shared-slice-read-close
-    close-requires
+    shared-slice-read-act-on-2
+    act-on-requires-2
     enum-told-5
-    shared-slice-read-drop
-    drop-requires
+    shared-slice-read-act-on-3
+    act-on-requires-3
     returns
     returns-2
     returns-3

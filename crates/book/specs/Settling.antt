@@ -6,7 +6,7 @@ use Prim.Native.Nat.{ℕ, suc}
 use lib.ListN.{replicate}
 use Rattle.refusal.specs.declared.Check.{Check}
 use Rattle.refusal.specs.declared.Check.the-variants.{Pass, Refuse}
-use Rattle.refusal.specs.Checks.{unless, checked}
+use Rattle.refusal.specs.Checks.{unless, first, checked}
 use Rattle.book.specs.declared.State.{State}
 use Rattle.book.specs.declared.State.the-variants.{Empty, Draft, Open}
 use Rattle.book.specs.declared.Reply.{Reply}
@@ -43,6 +43,10 @@ openCheck s = unless (not (isOpenState s)) 7 Pass
 
 abbrev pub closedCheck : State → Check
 closedCheck s = unless (isOpenState s) 12 Pass
+
+-- 6 and 9, and then the checks of a call's own
+abbrev pub heldCheck : ℕ → State → Check → Check
+heldCheck k s next = first (codeCheck k) (first (emptyCheck s) next)
 
 -- the answer of a call's checks
 abbrev pub replyOf : Check → Reply

@@ -8,7 +8,7 @@ ghost use Prim.Native.Nat.{suc, _<_};
 ghost use Rattle.refusal.specs.declared.Check.the-variants.{Pass};
 ghost use Rattle.refusal.specs.Checks.{unless};
 ghost use Rattle.book.specs.Checks.{inside};
-ghost use Rattle.book.specs.Settling.{codeCheck, emptyCheck, openCheck, closedCheck, replyOf, settledBy, doneBy};
+ghost use Rattle.book.specs.Settling.{codeCheck, emptyCheck, openCheck, closedCheck, heldCheck, replyOf, settledBy, doneBy};
 ghost use Rattle.book.specs.Book.{empty, fresh, placeWith, tariffIn, withState};
 use benchmark::Benchmarks;
 use calendar::Period;
@@ -204,6 +204,14 @@ pub fn sheet_check(loaded: bool) -> Check
     } else {
         Check::Refuse(10)
     }
+}
+
+// 6 and 9, and then what a call on the place of a code checks besides.
+pub fn held_check(code: u32, p: Place, next: Check) -> Check
+    ensures { λ r. ⌜ r ≡ heldCheck code (p .state) next ⌝ }
+{
+    let filled = refusal::first(empty_check(p), next);
+    refusal::first(code_check(code), filled)
 }
 
 // The index of a code's place. A code outside 1 to 32 has none: no call passes its check, and any index serves.

@@ -19,7 +19,7 @@ use Rattle.book.specs.declared.Book.{Book}
 use Rattle.book.specs.Calls.{Record, Act, OPEN, CLOSE, DROP, Answer, accepted}
 use Rattle.book.specs.Checks.{verdictAnswer}
 use Rattle.book.specs.Book.{empty, tariffIn, withState, Reachable}
-use Rattle.book.specs.Settling.{codeCheck, emptyCheck, openCheck, closedCheck, Settles}
+use Rattle.book.specs.Settling.{codeCheck, openCheck, closedCheck, heldCheck, Settles}
 use Rattle.stands.specs.Stands.{Holds}
 use Rattle.codes.specs.declared.CodeAct.{CodeAct}
 use Rattle.codes.specs.declared.CodeAct.the-variants.{Open, Close, Drop}
@@ -48,7 +48,7 @@ placeOn Drop p = empty
 -- what an act comes to on the place of a code, with the figures of the sheet that is loaded, if one is
 abbrev pub SettlesOn : CodeAct → ℕ → Place → Bool → Benchmarks → Settled → Type 0
 SettlesOn a k p loaded figures r =
-    Settles (first (codeCheck k) (first (emptyCheck (p .state)) (restOn a (p .state) loaded))) (nextOn a figures p) p (placeOn a p) r
+    Settles (heldCheck k (p .state) (restOn a (p .state) loaded)) (nextOn a figures p) p (placeOn a p) r
 
 -- only OPEN judges a tariff, and asks something of the place and the figures, and of the book
 abbrev pub Judgeable : CodeAct → Place → Bool → Benchmarks → Type 0

@@ -9,10 +9,10 @@ ghost use Prim.Native.Nat.{_≤_};
 ghost use lib.ListN.{drop, replicate};
 ghost use Rattle.benchmark.specs.Lawful.{Lawful};
 ghost use Rattle.tariff.specs.Tariff.{tariffOf};
-ghost use Rattle.book.specs.Calls.{PUT, OPEN, CLOSE, DROP, call};
+ghost use Rattle.book.specs.Calls.{PUT, OPEN, CLOSE, DROP, call, accepted};
 ghost use Rattle.book.specs.Book.{placeWith, Reachable};
 ghost use Rattle.book.specs.Promises.{Does};
-ghost use Rattle.book.specs.Settling.{settledBy};
+ghost use Rattle.book.specs.Settling.{Settles};
 ghost use Rattle.stands.specs.Stands.{Holds};
 ghost use Rattle.codes.specs.Codes.{actOn, SettlesOn, Judgeable, Handed, putChecks};
 use benchmark::Benchmarks;
@@ -52,8 +52,7 @@ fn open_at(code: u32, p: Place, loaded: bool, figures: Benchmarks) -> Settled
     ensures { λ r. ⌜ SettlesOn CodeAct.Open code p loaded figures r ⌝ }
 {
     let shut = refusal::first(book::open_check(p), book::sheet_check(loaded));
-    let filled = refusal::first(book::empty_check(p), shut);
-    let checked = refusal::first(book::code_check(code), filled);
+    let checked = book::held_check(code, p, shut);
     let Check::Pass = checked else {
         return book::settled_by(checked, p, p);
     };
@@ -80,8 +79,7 @@ fn open_at(code: u32, p: Place, loaded: bool, figures: Benchmarks) -> Settled
 fn close_at(code: u32, p: Place, loaded: bool, figures: Benchmarks) -> Settled
     ensures { λ r. ⌜ SettlesOn CodeAct.Close code p loaded figures r ⌝ }
 {
-    let filled = refusal::first(book::empty_check(p), book::closed_check(p));
-    let checked = refusal::first(book::code_check(code), filled);
+    let checked = book::held_check(code, p, book::closed_check(p));
     book::settled_by(checked, p, book::in_state(p, State::Draft))
 }
 
@@ -89,8 +87,7 @@ fn close_at(code: u32, p: Place, loaded: bool, figures: Benchmarks) -> Settled
 fn drop_at(code: u32, p: Place, loaded: bool, figures: Benchmarks) -> Settled
     ensures { λ r. ⌜ SettlesOn CodeAct.Drop code p loaded figures r ⌝ }
 {
-    let filled = refusal::first(book::empty_check(p), book::open_check(p));
-    let checked = refusal::first(book::code_check(code), filled);
+    let checked = book::held_check(code, p, book::open_check(p));
     book::settled_by(checked, p, book::empty_place())
 }
 
@@ -147,7 +144,7 @@ pub fn drop(b: Book, code: u32) -> Done
 
 // PUT (code, tariff). 6, 7, 8. Else the place holds it as a draft, over any draft.
 fn put_at(code: u32, p: Place, x: &[u32]) -> Settled
-    ensures { λ r. ⌜ r ≡ settledBy (putChecks code (p .state) (now (x .entry))) p (placeWith State.Draft (tariffOf (now (x .entry)))) ⌝ }
+    ensures { λ r. ⌜ Settles (putChecks code (p .state) (now (x .entry))) accepted p (placeWith State.Draft (tariffOf (now (x .entry)))) r ⌝ }
 {
     let shut = refusal::first(book::open_check(p), tariff::check(x));
     let checked = refusal::first(book::code_check(code), shut);

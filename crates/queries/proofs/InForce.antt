@@ -12,13 +12,16 @@ use Rattle.benchmark.specs.declared.Benchmarks.{Benchmarks}
 use Rattle.benchmark.specs.Benchmark.{benchmark, place, benchmarksOf}
 use Rattle.benchmark.specs.Lawful.{Lawful}
 use Rattle.benchmark.proofs.Lawful.{charge-at-place}
+use Rattle.tariff.specs.declared.Tariff.{Tariff}
+use Rattle.charge.specs.Charge.{arrangement}
 use Rattle.cap.specs.declared.Terms.{Terms}
 use Rattle.cap.specs.Judged.{Fits}
+use Rattle.verdict.specs.Cells.{cell, terms}
 use Rattle.book.specs.declared.Book.{Book}
 use Rattle.book.specs.Calls.{Sheet}
 use Rattle.book.specs.Checks.{figuresOf}
 use Rattle.book.specs.Book.{sheetIn, Reachable}
-use Rattle.book.proofs.InForce.{figures-are}
+use Rattle.stands.proofs.InForce.{figures-are}
 use Rattle.queries.specs.Queries.{termsOf}
 use Rattle.queries.specs.Reading.{termsIn}
 
@@ -57,6 +60,11 @@ module _ (b : Book) (from : Reachable b) (loaded : b .loaded ≡ true) where
 
   pub terms-told : (r a p : ℕ) → r < 14 → a < 2 → p < 2 → termsIn (b .benchmarks) r a p ≡ termsOf (sheetIn b) r a p
   terms-told r a p hr ha hp = ap (λ f. termsIn f r a p) (figures-are b from loaded) ∙ terms-of-sheet (sheetIn b) r a p hr ha hp
+
+-- the numbers of a tariff's cell
+pub terms-of-cell : (f : Benchmarks) (x : Tariff) (r p : ℕ) → termsIn f r (arrangement x) p ≡ terms f x (cell r p)
+unfolding termsIn terms
+terms-of-cell f x r p = refl
 
 -- the terms that the code reads are those of the cell
 pub terms-read : (f : Benchmarks) (r a p : ℕ) (e : Terms)

@@ -1,4 +1,4 @@
 pub mod InForce
-pub mod Asked
+pub mod Ranges
 pub mod Listed
-pub mod Quoted
+pub mod Answers

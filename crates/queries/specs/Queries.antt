@@ -1,24 +1,23 @@
 -- BENCHMARK, MAXIMUM and QUOTE of document 01: what each answers, on refused input too.
 -- Assumes nothing.
-use mathlib.Core.Bool.{Bool, true, false, _&&_}
+use mathlib.Core.Bool.{Bool, _&&_}
 use mathlib.Core.List.{List}
-use mathlib.Core.Option.{Option, none, some}
 use Prim.Native.Nat.{ℕ, _+_, _*_}
 use lib.Dec.{leb, ltb, eqb}
 use lib.ListN.{length, getD}
 use Rattle.laws.specs.Notions.{every}
+use Rattle.refusal.specs.Checks.{need, given}
 use Rattle.calendar.specs.Calendar.{periodDays}
 use Rattle.sheet.specs.Sheet.{field}
 use Rattle.benchmark.specs.Benchmark.{benchmark}
 use Rattle.tariff.specs.declared.Tariff.{Tariff}
-use Rattle.tariff.specs.Tariff.{tariffOf}
 use Rattle.cap.specs.declared.Terms.{Terms}
 use Rattle.cap.specs.Cap.{maximum, charged, capped, monthMost}
 use Rattle.verdict.specs.Cells.{offered, terms, cell}
 use Rattle.book.specs.declared.Book.{Book}
-use Rattle.book.specs.Calls.{Sheet, Record}
-use Rattle.book.specs.Checks.{figuresOf, outside}
-use Rattle.book.specs.Book.{bookReadings}
+use Rattle.book.specs.Calls.{Sheet}
+use Rattle.book.specs.Checks.{figuresOf, inside}
+use Rattle.book.specs.Book.{inForce, bookReadings}
 use Rattle.queries.specs.declared.Told.{Told}
 use Rattle.queries.specs.declared.Told.the-variants as told
 
@@ -51,14 +50,10 @@ tellingOf (told.Quote c m) = quotation (record { charge = c; maximum = m })
 abbrev pub inRanges : ℕ → ℕ → ℕ → Bool
 inRanges region arrangement method = ltb region 14 && ltb arrangement 2 && ltb method 2
 
--- BENCHMARK (region, arrangement, method, level). 13, 10.
-abbrev pub benchmarkTold : (allowed : Bool) (sheet : Option Sheet) → ℕ → ℕ → ℕ → ℕ → Telling
-benchmarkTold false sheet r a p l = refused 13
-benchmarkTold true none r a p l = refused 10
-benchmarkTold true (some s) r a p l = benchmarkCharge (benchmark (s .fields) r a p l)
-
+-- BENCHMARK (region, arrangement, method, level). 13. 10: no sheet
 unfoldable pub benchmarkOf : Book → ℕ → ℕ → ℕ → ℕ → Telling
-benchmarkOf b r a p l = benchmarkTold (inRanges r a p && ltb l 2) (bookReadings b .sheet) r a p l
+benchmarkOf b r a p l =
+    need refused (inRanges r a p && ltb l 2) 13 (given refused (inForce b) 10 (λ s. benchmarkCharge (benchmark (s .fields) r a p l)))
 
 -- MAXIMUM (region, arrangement, method, total 0 to 120,000): "the same two; gives the whole number above and 12 × m"
 abbrev pub termsOf : Sheet → ℕ → ℕ → ℕ → Terms
@@ -71,14 +66,13 @@ termsOf s r a p =
       days = periodDays (s .period);
     }
 
-abbrev pub maximumTold : (allowed : Bool) (sheet : Option Sheet) → ℕ → ℕ → ℕ → ℕ → Telling
-maximumTold false sheet r a p total = refused 13
-maximumTold true none r a p total = refused 10
-maximumTold true (some s) r a p total =
-    maximumCharge (record { number = maximum (termsOf s r a p) total; denominator = 12 * field (s .fields) (93 + a) })
+abbrev pub maximumIn : Sheet → ℕ → ℕ → ℕ → ℕ → Fraction
+maximumIn s r a p total =
+    let e = termsOf s r a p in record { number = maximum e total; denominator = 12 * e .m }
 
 unfoldable pub maximumOf : Book → ℕ → ℕ → ℕ → ℕ → Telling
-maximumOf b r a p total = maximumTold (inRanges r a p && leb total 120000) (bookReadings b .sheet) r a p total
+maximumOf b r a p total =
+    need refused (inRanges r a p && leb total 120000) 13 (given refused (inForce b) 10 (λ s. maximumCharge (maximumIn s r a p total)))
 
 -- "13: region or method not offered, the list not t long, or a month above 10,000"
 unfoldable pub cellAllowed : Tariff → ℕ → ℕ → Bool
@@ -87,23 +81,16 @@ cellAllowed x region method = ltb region 14 && ltb method 2 && offered x (cell r
 unfoldable pub monthsAllowed : ℕ → List ℕ → Bool
 monthsAllowed t months = eqb (length months) t && every (length months) (λ i. leb (getD months i 0) monthMost)
 
-abbrev pub quotable : Sheet → Tariff → ℕ → ℕ → List ℕ → Bool
-quotable s x region method months = cellAllowed x region method && monthsAllowed (s .period .months) months
-
 -- "Gives 100 × 12 × m times the charge and times the maximum."
-abbrev pub quoted : (allowed : Bool) → Sheet → Tariff → ℕ → ℕ → List ℕ → Telling
-quoted false s x region method months = refused 13
-quoted true s x region method months =
-    let e = terms (figuresOf s) x (cell region method) in quotation (record { charge = charged e x months; maximum = capped e months })
+abbrev pub quotationIn : Sheet → Tariff → ℕ → ℕ → List ℕ → Quotation
+quotationIn s x region method months =
+    let e = terms (figuresOf s) x (cell region method) in record { charge = charged e x months; maximum = capped e months }
 
--- QUOTE (code, region, method, months). 6, 9, 10, 13. "Drafts can be quoted."
-abbrev pub quoteTold : (outside : Bool) (tariff : Option Record) (sheet : Option Sheet) → ℕ → ℕ → List ℕ → Telling
-quoteTold true tariff sheet region method months = refused 6
-quoteTold false none sheet region method months = refused 9
-quoteTold false (some x) none region method months = refused 10
-quoteTold false (some x) (some s) region method months =
-    quoted (quotable s (tariffOf x) region method months) s (tariffOf x) region method months
-
+-- QUOTE (code, region, method, months). 6: code outside 1 to 32. 9: the place is empty. 10. 13. "Drafts can be quoted."
 unfoldable pub quoteOf : Book → ℕ → ℕ → ℕ → List ℕ → Telling
-quoteOf b code region method months =
-    quoteTold (outside code) (bookReadings b .tariff code) (bookReadings b .sheet) region method months
+quoteOf b k region method months =
+    need refused (inside k) 6
+    (given refused (bookReadings b .held k) 9
+    (λ h. given refused (inForce b) 10
+    (λ s. need refused (cellAllowed (h .tariff) region method && monthsAllowed (s .period .months) months) 13
+    (quotation (quotationIn s (h .tariff) region method months)))))

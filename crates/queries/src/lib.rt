@@ -82,12 +82,9 @@ pub fn benchmark(b: Book, region: u32, arrangement: u32, method: u32, level: u32
     ensures { λ r. ⌜ tellingOf r ≡ benchmarkOf b region arrangement method level ⌝ }
 {
     let ranged = ranges_check(region, arrangement, method, level < 2);
-    let Check::Pass = ranged else {
-        return refused(ranged);
-    };
-    let loaded = book::sheet_check(b.loaded);
-    let Check::Pass = loaded else {
-        return refused(loaded);
+    let checked = refusal::first(ranged, book::sheet_check(b.loaded));
+    let Check::Pass = checked else {
+        return refused(checked);
     };
     let figures = b.benchmarks;
     let charges = figures.charges;
@@ -104,12 +101,9 @@ pub fn maximum(b: Book, region: u32, arrangement: u32, method: u32, total: u32) 
     ensures { λ r. ⌜ tellingOf r ≡ maximumOf b region arrangement method total ⌝ }
 {
     let ranged = ranges_check(region, arrangement, method, total <= 120_000);
-    let Check::Pass = ranged else {
-        return refused(ranged);
-    };
-    let loaded = book::sheet_check(b.loaded);
-    let Check::Pass = loaded else {
-        return refused(loaded);
+    let checked = refusal::first(ranged, book::sheet_check(b.loaded));
+    let Check::Pass = checked else {
+        return refused(checked);
     };
     let figures = b.benchmarks;
     let e = terms_in(
@@ -174,26 +168,16 @@ pub fn quote(b: Book, code: u32, region: u32, method: u32, months: &[u32]) -> To
     requires { ⌜ Reachable b ⌝ }
     ensures { λ r. ⌜ tellingOf r ≡ quoteOf b code region method (now (months .entry)) ⌝ }
 {
-    let inside = book::code_check(code);
-    let Check::Pass = inside else {
-        return refused(inside);
-    };
-    let at = (code - 1) as usize;
+    let at = book::index_of(code);
     let places = b.places;
     let p = places[at];
-    let filled = book::empty_check(p);
-    let Check::Pass = filled else {
-        return refused(filled);
-    };
-    let loaded = book::sheet_check(b.loaded);
-    let Check::Pass = loaded else {
-        return refused(loaded);
-    };
-    let figures = b.benchmarks;
     let x = book::tariff_in(p);
+    let figures = b.benchmarks;
     let allowed = quote_check(x, region, method, figures.months, months);
-    let Check::Pass = allowed else {
-        return refused(allowed);
+    let in_force = refusal::first(book::sheet_check(b.loaded), allowed);
+    let checked = book::held_check(code, p, in_force);
+    let Check::Pass = checked else {
+        return refused(checked);
     };
     let arrangement = verdict::arrangement_of(x);
     let e = terms_in(figures, region as usize, arrangement, method as usize);

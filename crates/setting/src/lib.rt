@@ -3,14 +3,13 @@
 // exceeds somewhere becomes a draft. It requires document 01's own sentence on the book, `Reachable`.
 ghost use mathlib.Core.Path.{_≡_};
 ghost use mathlib.Core.List.{map};
-ghost use Prim.Native.Nat.{ℕ};
+ghost use Prim.Native.Nat.{ℕ, _<_};
 ghost use lib.ListN.{length, getD};
 ghost use Rattle.benchmark.specs.Lawful.{Lawful};
-ghost use Rattle.book.specs.Calls.{SET, sheetAt};
-ghost use Rattle.book.specs.Book.{beyond, Reachable};
-ghost use Rattle.book.specs.Sound.{Holds};
+ghost use Rattle.book.specs.Calls.{SET, sheetAt, call};
+ghost use Rattle.book.specs.Book.{beyond, under, Reachable};
 ghost use Rattle.book.specs.Promises.{Does};
-ghost use Rattle.setting.specs.Setting.{underFigures};
+ghost use Rattle.stands.specs.Stands.{Holds};
 use benchmark::Benchmarks;
 use book::Book;
 use book::Done;
@@ -23,7 +22,7 @@ use verdict::Found;
 // A place under the figures of a new sheet: an open tariff that exceeds somewhere becomes a draft.
 fn judged(p: Place, figures: Benchmarks) -> Place
     requires { ⌜ Lawful figures × Holds p ⌝ }
-    ensures { λ r. ⌜ r ≡ underFigures figures p ⌝ }
+    ensures { λ r. ⌜ r ≡ under figures p ⌝ }
 {
     let state = p.state;
     match state {
@@ -41,8 +40,8 @@ fn judged(p: Place, figures: Benchmarks) -> Place
 
 // All places under the figures of a new sheet.
 fn all_judged(places: [Place; 32], figures: Benchmarks) -> [Place; 32]
-    requires { ⌜ Lawful figures × ((i : ℕ) → Holds (getD places i beyond)) ⌝ }
-    ensures { λ r. ⌜ r ≡ map (underFigures figures) places ⌝ }
+    requires { ⌜ Lawful figures × ((i : ℕ) → i < 32 → Holds (getD places i beyond)) ⌝ }
+    ensures { λ r. ⌜ r ≡ map (under figures) places ⌝ }
 {
     let mut next = places;
     let mut i: usize = 0;
@@ -71,22 +70,23 @@ fn fields_of(fields: &[u32]) -> [u32; 95]
 // SET (sheet, period). 1 to 5. Else the sheet is replaced and each open tariff that exceeds somewhere becomes a draft.
 pub fn set(b: Book, fields: &[u32], period: Period) -> Done
     requires { ⌜ Reachable b ⌝ }
-    ensures { λ r. ⌜ Does b (SET (sheetAt (now (fields .entry)) period)) r ⌝ }
+    ensures { λ r. ⌜ Does b (call (SET (sheetAt (now (fields .entry)) period))) r ⌝ }
 {
     let worked = benchmark::work_out(fields, period);
     let checked = worked.check;
     let Check::Pass = checked else {
-        return book::refused(b, checked);
+        return book::answered(checked, b);
     };
     let figures = worked.benchmarks;
     let copy = fields_of(fields);
     let before = b.places;
     let places = all_judged(before, figures);
-    book::accepted(Book {
+    let next = Book {
         loaded: true,
         fields: copy,
         period,
         benchmarks: figures,
         places,
-    })
+    };
+    book::answered(checked, next)
 }

@@ -6,6 +6,8 @@ use mathlib.Core.Bool.{true}
 use Prim.Native.Nat.{ℕ, suc, _<_}
 use native.Mathlib.Omega.{arith}
 use lib.ListN.{getD}
+use Rattle.laws.proofs.Never.{never}
+use Rattle.refusal.specs.declared.Check.the-variants.{Pass}
 use Rattle.benchmark.specs.Lawful.{Lawful}
 use Rattle.benchmark.proofs.Lawful.{lawful}
 use Rattle.tariff.specs.declared.Tariff.{Tariff}
@@ -17,6 +19,7 @@ use Rattle.book.specs.declared.Book.{Book}
 use Rattle.book.specs.Calls.{Sheet}
 use Rattle.book.specs.Checks.{figuresOf}
 use Rattle.book.specs.Book.{beyond, tariffIn, sheetIn, inForce, Reachable}
+use Rattle.book.specs.Settling.{emptyCheck}
 use Rattle.book.proofs.Places.{in-range, record-valid}
 use mathlib.Core.Option.{Option}
 use Rattle.stands.specs.Stands.{Recorded, FitsAs, HoldsAs, Holds}
@@ -42,3 +45,12 @@ module _ (b : Book) (from : Reachable b) where
   holds-at i h =
       let p = getD (b .places) i beyond in
       holds (inForce b) (p .state) p (reachable-stands b from .places (suc i) (in-range (suc i) (omega arith) (omega arith)))
+
+  -- so a place that is not empty holds a valid one
+  filled : (q : State) (x : Tariff) → HoldsAs q x → emptyCheck q ≡ Pass → validTariff x ≡ true
+  filled Empty x h e = never (cc)
+  filled Draft x h e = h
+  filled Open x h e = h
+
+  pub filled-valid : (i : ℕ) → i < 32 → emptyCheck (getD (b .places) i beyond .state) ≡ Pass → validTariff (tariffIn (getD (b .places) i beyond)) ≡ true
+  filled-valid i h e = let p = getD (b .places) i beyond in filled (p .state) (tariffIn p) (holds-at i h) e

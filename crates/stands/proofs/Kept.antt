@@ -18,26 +18,18 @@ use Rattle.book.specs.declared.Place.{Place}
 use Rattle.book.specs.declared.Book.{Book}
 use Rattle.book.specs.Calls.{Sheet, Act, SET, PUT, OPEN, CLOSE, DROP, accepted, isAccepted, isNone}
 use Rattle.book.specs.Checks.{Holding, figuresOf, complies, inside, answer}
-use Rattle.book.specs.Book.{empty, tariffIn, withState, fresh, beyond, placeOf, heldIn, held, inForce, bookReadings, withPlace, openIf, stateUnder, under, changed, Reachable}
+use Rattle.book.specs.Book.{empty, tariffIn, withState, fresh, beyond, placeOf, holding, heldIn, held, inForce, bookReadings, withPlace, openIf, stateUnder, under, changed, Reachable}
 use Rattle.book.proofs.Places.{code-range, at-set, length-setPlace, at-map}
 use Rattle.book.proofs.Accepted.{checked-accepted, put-accepted, close-accepted, drop-accepted, open-accepted}
 use Rattle.book.proofs.Reached.{always}
-use Rattle.stands.specs.Stands.{Recorded, FitsAs, Fits, Stands}
+use Rattle.stands.specs.Stands.{Recorded, MayOpen, FitsAs, Fits, Stands}
 
 -- a place that holds something holds the tariff of a record that passes refusal 8
 recorded : (f : Option Sheet) (s : State) (p : Place) → FitsAs f s p → (h : Holding) → heldIn s (tariffIn p) ≡ some h
-    → Recorded (tariffIn p) × (h .tariff ≡ tariffIn p)
+    → Recorded (tariffIn p) × (tariffIn p ≡ h .tariff)
 recorded f Empty p w h e = never (cc)
-recorded f Draft p w h e = (w, ap (λ o. tariffFrom o) (sym e))
-  where
-    tariffFrom : Option Holding → Tariff
-    tariffFrom none = tariffIn p
-    tariffFrom (some g) = g .tariff
-recorded f Open p w h e = (w .0, ap (λ o. tariffFrom o) (sym e))
-  where
-    tariffFrom : Option Holding → Tariff
-    tariffFrom none = tariffIn p
-    tariffFrom (some g) = g .tariff
+recorded f Draft p w h e = (w, let same : holding (tariffIn p) false ≡ h = cc in ap (λ g. g .tariff) same)
+recorded f Open p w h e = (w .0, let same : holding (tariffIn p) true ≡ h = cc in ap (λ g. g .tariff) same)
 
 -- a sheet comes in
 none-of : (o : Option Cell) → isNone o ≡ true → o ≡ none
@@ -52,6 +44,10 @@ fits-under f s Open p h = go (complies (figuresOf s) (tariffIn p)) refl
     go : (t : Bool) → complies (figuresOf s) (tariffIn p) ≡ t → Fits (some s) (withState (openIf t) p)
     go true e = (h .0, none-of (firstOver (figuresOf s) (tariffIn p)) e)
     go false e = h .0
+
+-- a tariff opens
+may-open : (f : Option Sheet) (s : Sheet) (x y : Tariff) → f ≡ some s → x ≡ y → firstOver (figuresOf s) y ≡ none → MayOpen f x
+may-open f s x y e g h = subst (λ o. MayOpen o x) (sym e) (ap (firstOver (figuresOf s)) g ∙ h)
 
 -- one place is set
 stands-place : (b : Book) (k : ℕ) (p : Place) → Stands b → inside k ≡ true → Fits (inForce b) p → Stands (withPlace b k p)
@@ -85,7 +81,7 @@ stands-changed b h (OPEN k) e =
     let p = placeOf (b .places) k in
     let f = open-accepted k (held p) (inForce b) e in
     let r = recorded (inForce b) (p .state) p (h .places k (f .code)) (f .h) (f .its) in
-    stands-place b k (withState Open p) h (f .code) (r .0, rw (f .in-force, ← r .1) (f .none-over))
+    stands-place b k (withState Open p) h (f .code) (r .0, may-open (inForce b) (f .s) (tariffIn p) (f .h .tariff) (f .in-force) (r .1) (f .none-over))
 stands-changed b h (CLOSE k) e =
     let p = placeOf (b .places) k in
     let f = close-accepted k (held p) e in

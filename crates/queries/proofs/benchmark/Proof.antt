@@ -1,23 +1,41 @@
--- `queries::benchmark` meets its contract: each check that refuses is the first that applies, and the figure read is that of its place.
+-- `queries::benchmark` meets its contract: behind 13 and 10 it reads the figure at its index.
 -- Assumes nothing.
-use mathlib.Core.Path.{_≡_, sym, _∙_, ap}
+use mathlib.Core.Path.{_≡_, sym, _∙_, ap, ap₂}
 use mathlib.Core.Bool.{true, _&&_}
 use native.Mathlib.Omega.{arith}
 use lib.Dec.{ltb}
+use borrow.Author.Tests.{ltb-true}
+use Rattle.refusal.specs.declared.Check.the-variants.{Pass}
+use Rattle.refusal.specs.Checks.{unless, first}
+use Rattle.refusal.proofs.Laws.{passes, first-passes}
 use Rattle.queries.specs.Queries.{benchmarkCharge, inRanges}
-use Rattle.book.proofs.InForce.{check-passed}
-use Rattle.queries.proofs.Asked.{hands-on, place-below, benchmark-outside, benchmark-no-sheet, benchmark-told}
+use Rattle.queries.proofs.InForce.{charge-is}
+use Rattle.queries.proofs.Ranges.{within, place-below}
+use Rattle.queries.proofs.Answers.{hands-on, passed-on, benchmark-answer}
 use borrow.Author.Needs.{needs}
 use Rattle.queries.proofs.benchmark.Statement.{statement}
 use Rattle.queries.proofs.benchmark.Tie as tie
 
--- the arguments are in their ranges
-ranged : (c : tie.After-enum-told)
-    → (inRanges (c .before .before .before .args .region) (c .before .before .before .args .arrangement) (c .before .before .before .args .method) && ltb (c .before .before .before .args .level) 2) ≡ true
-ranged c = check-passed _ _ (sym (c .before .before .ranges-check .ensures) ∙ c .enum-told .given .1)
+-- the checks, one after the other
+checks : (c : tie.After-first) → let a = c .before .before .before .args in
+    c .first .result ≡ first (unless (inRanges (a .region) (a .arrangement) (a .method) && ltb (a .level) 2) 13 Pass) (unless (a .b .loaded) 10 Pass)
+checks c = c .first .ensures ∙ ap₂ first (c .before .before .ranges-check .ensures) (c .before .sheet-check .ensures)
+
+-- past them
+passed : (c : tie.After-enum-told) → let a = c .before .before .before .before .before .args in
+    ((inRanges (a .region) (a .arrangement) (a .method) && ltb (a .level) 2) ≡ true) × (a .b .loaded ≡ true)
+passed c =
+    let both = first-passes _ _ (sym (checks (c .before .before)) ∙ c .enum-told .given .1) in
+    (passes _ 13 Pass (both .0) .0, passes _ 10 Pass (both .1) .0)
 
 ranges-check-requires : tie.Need-ranges-check-requires
 ranges-check-requires c κs = search needs
+
+sheet-check-requires : tie.Need-sheet-check-requires
+sheet-check-requires c κs = search needs
+
+first-requires : tie.Need-first-requires
+first-requires c κs = search needs
 
 enum-told : tie.Need-enum-told
 enum-told c = search needs
@@ -29,24 +47,10 @@ refused-requires : tie.Need-refused-requires
 refused-requires c κs = search needs
 
 returns : tie.Need-returns
-returns c = hands-on _ _ _ _ _ _ (c .before .before .before .ranges-check .ensures) (c .before .enum-told2 .given .1) (c .refused .ensures) (benchmark-outside _ _ _ _ _)
-
-sheet-check-requires : tie.Need-sheet-check-requires
-sheet-check-requires c κs = search needs
-
-enum-told-3 : tie.Need-enum-told-3
-enum-told-3 c = search needs
-
-enum-told-4 : tie.Need-enum-told-4
-enum-told-4 c = search needs
-
-refused-requires-2 : tie.Need-refused-requires-2
-refused-requires-2 c κs = search needs
-
-returns-2 : tie.Need-returns-2
-returns-2 c =
-    let s = c .before .before .before in
-    hands-on _ _ _ _ _ _ (s .sheet-check .ensures) (c .before .enum-told4 .given .1) (c .refused2 .ensures) (benchmark-no-sheet _ _ _ _ _ (ranged (s .before)))
+returns c =
+    let f = c .before .before .before in
+    let a = f .before .before .before .args in
+    hands-on _ _ _ _ _ _ (benchmark-answer (a .b) (a .region) (a .arrangement) (a .method) (a .level)) (checks f) (c .before .enum-told2 .given .1) (c .refused .ensures)
 
 mul-at : tie.Need-mul-at
 mul-at c = search needs
@@ -71,34 +75,34 @@ mul-wide c = search needs
 
 array-read-wide : tie.Need-array-read-wide
 array-read-wide c =
-    let g = c .before .before .before .before .before in
-    let x = g .before .before .before .args in
-    omega (arith, place-below (x .region) (x .arrangement) (x .method) (x .level) (ranged g))
+    let t = c .before .before in
+    let a = t .before .before .before .before .before .args in
+    omega (arith, place-below (a .region) (a .arrangement) (a .method) (a .level) (passed t .0))
 
 wide-requires : tie.Need-wide-requires
 wide-requires c κs = search needs
 
-returns-3 : tie.Need-returns-3
-returns-3 c =
-    let d = c .before .before .before in
-    let s = d .before .before in
-    ap benchmarkCharge (c .wide .ensures)
-    ∙ benchmark-told _ _ _ _ _ (s .before .before .before .before .pre) (ranged (s .before)) (check-passed _ _ (sym (s .sheet-check .ensures) ∙ d .enum-told3 .given .1))
+returns-2 : tie.Need-returns-2
+returns-2 c =
+    let t = c .before .before .before in
+    let f = t .before .before in
+    let st = f .before .before .before in
+    let a = st .args in
+    let w = within _ _ _ _ (passed t .0) in
+    ap benchmarkCharge (c .wide .ensures ∙ charge-is (a .b) (st .pre) (passed t .1) (a .region) (a .arrangement) (a .method) (a .level) (w .region) (w .arrangement) (w .method) (ltb-true (a .level) 2 (w .fourth)))
+    ∙ passed-on _ _ _ _ (benchmark-answer (a .b) (a .region) (a .arrangement) (a .method) (a .level)) (checks f) (t .enum-told .given .1)
 
 pub benchmark-spec : {M : Type 1} → statement M
 benchmark-spec =
     tie.close
     (tie.spec
     ranges-check-requires
+    sheet-check-requires
+    first-requires
     enum-told
     enum-told-2
     refused-requires
     returns
-    sheet-check-requires
-    enum-told-3
-    enum-told-4
-    refused-requires-2
-    returns-2
     mul-at
     mul-at-2
     add-at
@@ -108,4 +112,4 @@ benchmark-spec =
     mul-wide
     array-read-wide
     wide-requires
-    returns-3)
+    returns-2)

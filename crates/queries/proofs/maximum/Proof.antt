@@ -1,27 +1,43 @@
--- `queries::maximum` meets its contract: each check that refuses is the first that applies, and the terms read are those of the cell.
+-- `queries::maximum` meets its contract: behind 13 and 10 it works with the numbers of the cell.
 -- Assumes nothing.
-use mathlib.Core.Path.{_≡_, sym, _∙_, ap}
+use mathlib.Core.Path.{_≡_, sym, _∙_, ap, ap₂}
 use mathlib.Core.Bool.{true, _&&_}
+use Prim.Native.Nat.{ℕ, _*_}
 use lib.Dec.{leb}
+use Rattle.refusal.specs.declared.Check.the-variants.{Pass}
+use Rattle.refusal.specs.Checks.{unless, first}
+use Rattle.refusal.proofs.Laws.{passes, first-passes}
+use Rattle.cap.specs.declared.Terms.{Terms}
 use Rattle.cap.specs.Cap.{maximum}
-use Rattle.queries.specs.Queries.{inRanges}
-use Rattle.book.proofs.InForce.{check-passed, figures-lawful}
-use Rattle.queries.proofs.Asked.{hands-on, within, total-most, maximum-outside, maximum-no-sheet, maximum-told}
+use Rattle.stands.proofs.InForce.{figures-lawful}
+use Rattle.queries.specs.Queries.{Telling, maximumCharge, inRanges}
+use Rattle.queries.proofs.InForce.{terms-told}
+use Rattle.queries.proofs.Ranges.{within, total-most}
+use Rattle.queries.proofs.Answers.{hands-on, passed-on, maximum-answer}
 use borrow.Author.Needs.{needs}
 use Rattle.queries.proofs.maximum.Statement.{statement}
 use Rattle.queries.proofs.maximum.Tie as tie
 
--- the arguments are in their ranges
-ranged : (c : tie.After-enum-told)
-    → (inRanges (c .before .before .before .args .region) (c .before .before .before .args .arrangement) (c .before .before .before .args .method) && leb (c .before .before .before .args .total) 120000) ≡ true
-ranged c = check-passed _ _ (sym (c .before .before .ranges-check .ensures) ∙ c .enum-told .given .1)
+-- the checks, one after the other
+checks : (c : tie.After-first) → let a = c .before .before .before .args in
+    c .first .result ≡ first (unless (inRanges (a .region) (a .arrangement) (a .method) && leb (a .total) 120000) 13 Pass) (unless (a .b .loaded) 10 Pass)
+checks c = c .first .ensures ∙ ap₂ first (c .before .before .ranges-check .ensures) (c .before .sheet-check .ensures)
 
--- and a sheet is in force
-in-force : (c : tie.After-enum-told3) → c .before .before .before .before .before .before .args .b .loaded ≡ true
-in-force c = check-passed _ _ (sym (c .before .before .sheet-check .ensures) ∙ c .enum-told3 .given .1)
+-- past them
+passed : (c : tie.After-enum-told) → let a = c .before .before .before .before .before .args in
+    ((inRanges (a .region) (a .arrangement) (a .method) && leb (a .total) 120000) ≡ true) × (a .b .loaded ≡ true)
+passed c =
+    let both = first-passes _ _ (sym (checks (c .before .before)) ∙ c .enum-told .given .1) in
+    (passes _ 13 Pass (both .0) .0, passes _ 10 Pass (both .1) .0)
 
 ranges-check-requires : tie.Need-ranges-check-requires
 ranges-check-requires c κs = search needs
+
+sheet-check-requires : tie.Need-sheet-check-requires
+sheet-check-requires c κs = search needs
+
+first-requires : tie.Need-first-requires
+first-requires c κs = search needs
 
 enum-told : tie.Need-enum-told
 enum-told c = search needs
@@ -33,69 +49,58 @@ refused-requires : tie.Need-refused-requires
 refused-requires c κs = search needs
 
 returns : tie.Need-returns
-returns c = hands-on _ _ _ _ _ _ (c .before .before .before .ranges-check .ensures) (c .before .enum-told2 .given .1) (c .refused .ensures) (maximum-outside _ _ _ _ _)
-
-sheet-check-requires : tie.Need-sheet-check-requires
-sheet-check-requires c κs = search needs
-
-enum-told-3 : tie.Need-enum-told-3
-enum-told-3 c = search needs
-
-enum-told-4 : tie.Need-enum-told-4
-enum-told-4 c = search needs
-
-refused-requires-2 : tie.Need-refused-requires-2
-refused-requires-2 c κs = search needs
-
-returns-2 : tie.Need-returns-2
-returns-2 c =
-    let s = c .before .before .before in
-    hands-on _ _ _ _ _ _ (s .sheet-check .ensures) (c .before .enum-told4 .given .1) (c .refused2 .ensures) (maximum-no-sheet _ _ _ _ _ (ranged (s .before)))
+returns c =
+    let f = c .before .before .before in
+    let a = f .before .before .before .args in
+    hands-on _ _ _ _ _ _ (maximum-answer (a .b) (a .region) (a .arrangement) (a .method) (a .total)) (checks f) (c .before .enum-told2 .given .1) (c .refused .ensures)
 
 terms-in-requires : tie.Need-terms-in-requires
 terms-in-requires c κs =
-    let d = c .before in
-    let g = d .before .before .before in
-    let w = within _ _ _ _ (ranged g) in
-    (figures-lawful _ (g .before .before .before .pre) (in-force d), w .region, w .arrangement, w .method)
+    let t = c .before in
+    let st = t .before .before .before .before .before in
+    let w = within _ _ _ _ (passed t .0) in
+    (figures-lawful (st .args .b) (st .pre) (passed t .1), w .region, w .arrangement, w .method)
 
 wide-requires : tie.Need-wide-requires
 wide-requires c κs = search needs
 
 maximum-of-requires : tie.Need-maximum-of-requires
 maximum-of-requires c κs =
-    let g = c .before .before .before .before .before .before in
-    let x = g .before .before .before .args in
-    (c .before .terms-in .ensures .1, rw (c .wide .ensures) (total-most (x .region) (x .arrangement) (x .method) (x .total) (ranged g)))
+    let t = c .before .before .before in
+    let a = t .before .before .before .before .before .args in
+    (c .before .terms-in .ensures .1, rw (c .wide .ensures) (total-most (a .region) (a .arrangement) (a .method) (a .total) (passed t .0)))
 
 mul-denominator : tie.Need-mul-denominator
 mul-denominator c = search needs
 
-returns-3 : tie.Need-returns-3
-returns-3 c =
+returns-2 : tie.Need-returns-2
+returns-2 c =
     let m = c .before in
     let e = m .before .before in
-    let d = e .before .before in
-    let g = d .before .before .before in
+    let t = e .before .before in
+    let f = t .before .before in
+    let st = f .before .before .before in
+    let a = st .args in
+    let w = within _ _ _ _ (passed t .0) in
     let most = m .maximum-of .ensures .0 ∙ ap (maximum (e .terms-in .result)) (m .before .wide .ensures) in
-    maximum-told _ _ _ _ _ (g .before .before .before .pre) (ranged g) (in-force d) _ (e .terms-in .ensures .0) _ most
+    ap (λ (n : ℕ). maximumCharge (record { number = n; denominator = 12 * e .terms-in .result .m })) most
+    ∙ ap {B = Telling} (λ (d : Terms). maximumCharge (record { number = maximum d (a .total); denominator = 12 * d .m }))
+    (e .terms-in .ensures .0 ∙ terms-told (a .b) (st .pre) (passed t .1) (a .region) (a .arrangement) (a .method) (w .region) (w .arrangement) (w .method))
+    ∙ passed-on _ _ _ _ (maximum-answer (a .b) (a .region) (a .arrangement) (a .method) (a .total)) (checks f) (t .enum-told .given .1)
 
 pub maximum-spec : {M : Type 1} → statement M
 maximum-spec =
     tie.close
     (tie.spec
     ranges-check-requires
+    sheet-check-requires
+    first-requires
     enum-told
     enum-told-2
     refused-requires
     returns
-    sheet-check-requires
-    enum-told-3
-    enum-told-4
-    refused-requires-2
-    returns-2
     terms-in-requires
     wide-requires
     maximum-of-requires
     mul-denominator
-    returns-3)
+    returns-2)

@@ -1,78 +1,108 @@
--- `queries::quote` meets its contract: each check that refuses is the first that applies, and the terms read are those of the tariff in the cell.
+-- `queries::quote` meets its contract: behind its checks the tariff of the place is valid, and the numbers read are those of its cell.
 -- Assumes nothing.
-use mathlib.Core.Path.{_≡_, sym, _∙_, ap}
-use mathlib.Core.Bool.{true, _&&_}
-use Prim.Native.Nat.{_-_, _≤_}
+use mathlib.Core.Path.{_≡_, refl, sym, _∙_, ap, ap₂, subst}
+use mathlib.Core.Bool.{Bool, true, _&&_}
+use mathlib.Core.List.{List}
+use Prim.Native.Nat.{ℕ}
 use native.Mathlib.Omega.{arith}
 use lib.ListN.{getD}
 use denote.Ref.{now}
 use Rattle.refusal.specs.declared.Check.the-variants.{Pass}
+use Rattle.refusal.specs.Checks.{unless, first}
+use Rattle.refusal.proofs.Laws.{passes, first-passes}
 use Rattle.laws.proofs.Every.{and-left, and-right}
+use Rattle.tariff.specs.declared.Tariff.{Tariff}
 use Rattle.tariff.specs.Tariff.{validTariff}
-use Rattle.book.specs.Settling.{codeCheck, emptyCheck}
-use Rattle.book.specs.Book.{beyond, placeOf}
-use Rattle.book.proofs.Steps.{code-passed, index-below}
-use Rattle.queries.specs.Queries.{tellingOf, cellAllowed, monthsAllowed}
-use Rattle.queries.specs.Reading.{refusalTold}
-use Rattle.book.proofs.InForce.{check-passed, figures-lawful}
-use Rattle.queries.proofs.Asked.{hands-on}
+use Rattle.charge.specs.Charge.{arrangement}
+use Rattle.cap.specs.declared.Terms.{Terms}
+use Rattle.cap.specs.Cap.{charged, capped}
+use Rattle.verdict.specs.Cells.{cell, terms}
+use Rattle.book.specs.Checks.{figuresOf}
+use Rattle.book.specs.Book.{tariffIn, beyond, sheetIn}
+use Rattle.book.specs.Settling.{codeCheck, emptyCheck, heldCheck}
+use Rattle.stands.proofs.InForce.{figures-are, figures-lawful, filled-valid}
+use Rattle.queries.specs.Reading.{termsIn}
+use Rattle.queries.specs.Queries.{quotation, cellAllowed, monthsAllowed}
+use Rattle.queries.proofs.InForce.{months-are, terms-of-cell}
+use Rattle.queries.proofs.Ranges.{cell-within}
 use Rattle.queries.proofs.Listed.{months-for}
-use Rattle.queries.proofs.Quoted.{at-index, cell-within, quote-outside, quote-empty, quote-no-sheet, tariff-valid, quote-disallowed, quote-told}
+use Rattle.queries.proofs.Answers.{hands-on, passed-on, quote-answer}
 use borrow.Author.Needs.{needs}
 use Rattle.queries.proofs.quote.Statement.{statement}
 use Rattle.queries.proofs.quote.Tie as tie
 
--- where 6, 9 and 10 have passed, behind the check after them, and where the call starts
-abbrev start : tie.After-enum-told → tie.Start
-start c = c .before .before .before .before
+-- both sides, for the numbers of the cell and the tariff
+sides : (months : List ℕ) (n m : ℕ) (e d : Terms) (x y : Tariff) → n ≡ charged e x months → m ≡ capped e months → e ≡ d → x ≡ y
+    → quotation (record { charge = n; maximum = m }) ≡ quotation (record { charge = charged d y months; maximum = capped d months })
+sides months n m e d x y p q f g = λ i. quotation (record { charge = (p ∙ ap₂ (λ (k : Terms) (z : Tariff). charged k z months) f g) i; maximum = (q ∙ ap (λ (k : Terms). capped k months) f) i })
 
-abbrev past-6 : tie.After-enum-told3 → tie.After-enum-told
-past-6 c = c .before .before .before .before .before
+-- the place of the code
+abbrev at : tie.After-held-check → ℕ
+at c = c .before .before .before .before .before .before .before .before .index-of .result
 
-abbrev past-9 : tie.After-enum-told5 → tie.After-enum-told3
-past-9 c = c .before .before .before
+abbrev start : tie.After-held-check → tie.Start
+start c = c .before .before .before .before .before .before .before .before .before .before
 
-abbrev past-10 : tie.After-enum-told7 → tie.After-enum-told5
-past-10 c = c .before .before .before .before .before
-
-abbrev start-7 : tie.After-enum-told7 → tie.Start
-start-7 c = start (past-6 (past-9 (past-10 c)))
-
--- the code is one of the 32
-inside : (c : tie.After-enum-told) → codeCheck (start c .args .code) ≡ Pass
-inside c = sym (c .before .before .code-check .ensures) ∙ c .enum-told .given .1
-
-from-1 : (c : tie.After-enum-told) → 1 ≤ start c .args .code
-from-1 c = code-passed _ (inside c) .0
-
--- and the place read is that of the code
-at-code : (c : tie.After-enum-told)
-    → placeOf (start c .args .b .places) (start c .args .code) ≡ getD (start c .args .b .places) (start c .args .code - 1) beyond
-at-code c = at-index _ _ (from-1 c)
-
--- the place is not empty
-filled : (c : tie.After-enum-told3)
-    → emptyCheck (getD (start (past-6 c) .args .b .places) (start (past-6 c) .args .code - 1) beyond .state) ≡ Pass
-filled c = sym (c .before .before .empty-check .ensures) ∙ c .enum-told3 .given .1
-
--- a sheet is in force
-loaded : (c : tie.After-enum-told5) → start (past-6 (past-9 c)) .args .b .loaded ≡ true
-loaded c = check-passed _ _ (sym (c .before .before .sheet-check .ensures) ∙ c .enum-told5 .given .1)
+abbrev tariff : tie.After-held-check → Tariff
+tariff c = tariffIn (getD (start c .args .b .places) (at c) beyond)
 
 -- cell and months are allowed
-allowed : (c : tie.After-enum-told7)
-    → (cellAllowed (c .before .before .before .tariff-in .result) (start-7 c .args .region) (start-7 c .args .method) && monthsAllowed (start-7 c .args .b .benchmarks .months) (now (start-7 c .args .months))) ≡ true
-allowed c = check-passed _ _ (sym (c .before .before .quote-check .ensures) ∙ c .enum-told7 .given .1)
+abbrev allowed : tie.After-held-check → Bool
+allowed c = let a = start c .args in cellAllowed (tariff c) (a .region) (a .method) && monthsAllowed (a .b .benchmarks .months) (now (a .months))
 
--- and the tariff is valid
-valid : (c : tie.After-enum-told7) → validTariff (c .before .before .before .tariff-in .result) ≡ true
-valid c =
-    let f = past-9 (past-10 c) in
-    let w = past-6 f in
-    tariff-valid _ (start w .pre) (start w .args .code) _ (at-code w) (filled f) _ (c .before .before .before .tariff-in .ensures)
+-- the checks, one after the other
+checks : (c : tie.After-held-check)
+    → c .held-check .result ≡ heldCheck (start c .args .code) (getD (start c .args .b .places) (at c) beyond .state) (first (unless (start c .args .b .loaded) 10 Pass) (unless (allowed c) 13 Pass))
+checks c =
+    let q = c .before .before .before in
+    let a = start c .args in
+    let test : q .quote-check .result ≡ unless (allowed c) 13 Pass =
+    q .quote-check .ensures ∙ ap (λ (x : Tariff). unless (cellAllowed x (a .region) (a .method) && monthsAllowed (a .b .benchmarks .months) (now (a .months))) 13 Pass) (q .before .before .tariff-in .ensures) in
+    c .held-check .ensures ∙ ap (heldCheck (a .code) (getD (a .b .places) (at c) beyond .state)) (c .before .first .ensures ∙ ap₂ first (c .before .before .sheet-check .ensures) test)
 
-code-check-requires : tie.Need-code-check-requires
-code-check-requires c κs = search needs
+-- past them
+record Passed (c : tie.After-held-check) : Type 0 where
+  valid : validTariff (tariff c) ≡ true
+  loaded : start c .args .b .loaded ≡ true
+  allows : allowed c ≡ true
+
+passed : (c : tie.After-enum-told) → Passed (c .before .before)
+passed c =
+    let h = c .before .before in
+    let st = start h in
+    let i = h .before .before .before .before .before .before .before .before .index-of in
+    let past-6 = first-passes (codeCheck (st .args .code)) _ (sym (checks h) ∙ c .enum-told .given .1) .1 in
+    let past-9 = first-passes (emptyCheck (getD (st .args .b .places) (at h) beyond .state)) _ past-6 in
+    let past-10 = first-passes (unless (st .args .b .loaded) 10 Pass) _ (past-9 .1) in
+    record {
+      valid = filled-valid (st .args .b) (st .pre) (i .result) (i .ensures .0) (past-9 .0);
+      loaded = passes _ 10 Pass (past-10 .0) .0;
+      allows = passes (allowed h) 13 Pass (past-10 .1) .0;
+    }
+
+index-of-requires : tie.Need-index-of-requires
+index-of-requires c κs = search needs
+
+mul-p : tie.Need-mul-p
+mul-p c = search needs
+
+array-copy-out-p : tie.Need-array-copy-out-p
+array-copy-out-p c = search needs
+
+tariff-in-requires : tie.Need-tariff-in-requires
+tariff-in-requires c κs = search needs
+
+quote-check-requires : tie.Need-quote-check-requires
+quote-check-requires c κs = search needs
+
+sheet-check-requires : tie.Need-sheet-check-requires
+sheet-check-requires c κs = search needs
+
+first-requires : tie.Need-first-requires
+first-requires c κs = search needs
+
+held-check-requires : tie.Need-held-check-requires
+held-check-requires c κs = search needs
 
 enum-told : tie.Need-enum-told
 enum-told c = search needs
@@ -85,141 +115,67 @@ refused-requires c κs = search needs
 
 returns : tie.Need-returns
 returns c =
-    let told = c .before .enum-told2 .given .1 in
-    ap tellingOf (c .refused .ensures ∙ ap refusalTold told) ∙ quote-outside _ _ _ _ _ _ (sym (c .before .before .before .code-check .ensures) ∙ told)
-
-sub-at : tie.Need-sub-at
-sub-at c = from-1 c
-
-cast-at : tie.Need-cast-at
-cast-at c = search needs
-
-mul-p : tie.Need-mul-p
-mul-p c = search needs
-
-array-copy-out-p : tie.Need-array-copy-out-p
-array-copy-out-p c = index-below _ (inside (c .before))
-
-empty-check-requires : tie.Need-empty-check-requires
-empty-check-requires c κs = search needs
-
-enum-told-3 : tie.Need-enum-told-3
-enum-told-3 c = search needs
-
-enum-told-4 : tie.Need-enum-told-4
-enum-told-4 c = search needs
-
-refused-requires-2 : tie.Need-refused-requires-2
-refused-requires-2 c κs = search needs
-
-returns-2 : tie.Need-returns-2
-returns-2 c =
-    let w = c .before .before .before .before .before .before in
-    let told = c .before .enum-told4 .given .1 in
-    ap tellingOf (c .refused2 .ensures ∙ ap refusalTold told)
-    ∙ quote-empty _ _ _ _ _ _ (inside w) (at-code w) _ (sym (c .before .before .before .empty-check .ensures) ∙ told)
-
-sheet-check-requires : tie.Need-sheet-check-requires
-sheet-check-requires c κs = search needs
-
-enum-told-5 : tie.Need-enum-told-5
-enum-told-5 c = search needs
-
-enum-told-6 : tie.Need-enum-told-6
-enum-told-6 c = search needs
-
-refused-requires-3 : tie.Need-refused-requires-3
-refused-requires-3 c κs = search needs
-
-returns-3 : tie.Need-returns-3
-returns-3 c =
-    let s = c .before .before .before in
-    let f = s .before in
-    let w = past-6 f in
-    hands-on _ _ _ _ _ _ (s .sheet-check .ensures) (c .before .enum-told6 .given .1) (c .refused3 .ensures)
-    (quote-no-sheet _ _ _ _ _ _ (inside w) (at-code w) (filled f))
-
-tariff-in-requires : tie.Need-tariff-in-requires
-tariff-in-requires c κs = search needs
-
-quote-check-requires : tie.Need-quote-check-requires
-quote-check-requires c κs = search needs
-
-enum-told-7 : tie.Need-enum-told-7
-enum-told-7 c = search needs
-
-enum-told-8 : tie.Need-enum-told-8
-enum-told-8 c = search needs
-
-refused-requires-4 : tie.Need-refused-requires-4
-refused-requires-4 c κs = search needs
-
-returns-4 : tie.Need-returns-4
-returns-4 c =
-    let q = c .before .before .before in
-    let x = q .before in
-    let l = x .before .before in
-    let f = past-9 l in
-    let w = past-6 f in
-    hands-on _ _ _ _ _ _ (q .quote-check .ensures) (c .before .enum-told8 .given .1) (c .refused4 .ensures)
-    (quote-disallowed _ _ _ _ _ _ (inside w) (at-code w) (filled f) (start w .pre) _ (x .tariff-in .ensures) (loaded l))
+    let h = c .before .before .before in
+    let st = start h in
+    let a = st .args in
+    hands-on _ _ _ _ _ _
+    (quote-answer (a .b) (st .pre) (a .code) (a .region) (a .method) (now (a .months)) (at h) (h .before .before .before .before .before .before .before .before .index-of .ensures .1))
+    (checks h) (c .before .enum-told2 .given .1) (c .refused .ensures)
 
 arrangement-of-requires : tie.Need-arrangement-of-requires
 arrangement-of-requires c κs = search needs
 
 terms-in-requires : tie.Need-terms-in-requires
 terms-in-requires c κs =
-    let d = c .before in
-    let w = cell-within _ _ _ (and-left _ _ (allowed d)) in
-    (figures-lawful _ (start-7 d .pre) (loaded (past-10 d)), w .0, omega (arith, c .arrangement-of .ensures .1), w .1)
+    let t = c .before in
+    let h = t .before .before in
+    let st = start h in
+    let w = cell-within _ _ _ (and-left (cellAllowed (tariff h) (st .args .region) (st .args .method)) _ (passed t .allows)) in
+    (figures-lawful (st .args .b) (st .pre) (passed t .loaded), w .0, omega (arith, c .arrangement-of .ensures .1), w .1)
 
 sides-of-requires : tie.Need-sides-of-requires
 sides-of-requires c κs =
-    let d = c .before .before in
-    let listed = and-right (cellAllowed (d .before .before .before .tariff-in .result) _ _) (monthsAllowed _ _) (allowed d) in
-    (c .terms-in .ensures .1, valid d, months-for _ _ _ _ _ (c .terms-in .ensures .0) _ listed)
+    let t = c .before .before in
+    let h = t .before .before in
+    let listed = and-right (cellAllowed (tariff h) _ _) (monthsAllowed _ _) (passed t .allows) in
+    let x = h .before .before .before .before .before .tariff-in .ensures in
+    (c .terms-in .ensures .1, ap validTariff x ∙ passed t .valid, months-for _ _ _ _ _ (c .terms-in .ensures .0) _ listed)
 
-returns-5 : tie.Need-returns-5
-returns-5 c =
+returns-2 : tie.Need-returns-2
+returns-2 c =
     let e = c .before in
-    let d = e .before .before in
-    let x = d .before .before .before in
-    let l = past-10 d in
-    let f = past-9 l in
-    let w = past-6 f in
-    quote-told _ _ _ _ _ _ (inside w) (at-code w) (filled f) (start w .pre) _ (x .tariff-in .ensures) (loaded l) (allowed d)
-    _ (e .before .arrangement-of .ensures .0) _ (e .terms-in .ensures .0) _ _ (c .sides-of .ensures .0) (c .sides-of .ensures .1)
+    let t = e .before .before in
+    let h = t .before .before in
+    let st = start h in
+    let a = st .args in
+    let x : h .before .before .before .before .before .tariff-in .result ≡ tariff h = h .before .before .before .before .before .tariff-in .ensures in
+    let same : e .terms-in .result ≡ terms (figuresOf (sheetIn (a .b))) (tariff h) (cell (a .region) (a .method)) =
+    e .terms-in .ensures .0
+    ∙ ap (λ (i : ℕ). termsIn (a .b .benchmarks) (a .region) i (a .method)) (e .before .arrangement-of .ensures .0 ∙ ap arrangement x)
+    ∙ terms-of-cell (a .b .benchmarks) (tariff h) (a .region) (a .method)
+    ∙ ap (λ f. terms f (tariff h) (cell (a .region) (a .method))) (figures-are (a .b) (st .pre) (passed t .loaded)) in
+    sides (now (a .months)) _ _ _ _ _ _ (c .sides-of .ensures .0) (c .sides-of .ensures .1) same x
+    ∙ passed-on _ _ _ _
+    (quote-answer (a .b) (st .pre) (a .code) (a .region) (a .method) (now (a .months)) (at h) (h .before .before .before .before .before .before .before .before .index-of .ensures .1))
+    (checks h) (t .enum-told .given .1)
 
 pub quote-spec : {M : Type 1} → statement M
 quote-spec =
     tie.close
     (tie.spec
-    code-check-requires
+    index-of-requires
+    mul-p
+    array-copy-out-p
+    tariff-in-requires
+    quote-check-requires
+    sheet-check-requires
+    first-requires
+    held-check-requires
     enum-told
     enum-told-2
     refused-requires
     returns
-    sub-at
-    cast-at
-    mul-p
-    array-copy-out-p
-    empty-check-requires
-    enum-told-3
-    enum-told-4
-    refused-requires-2
-    returns-2
-    sheet-check-requires
-    enum-told-5
-    enum-told-6
-    refused-requires-3
-    returns-3
-    tariff-in-requires
-    quote-check-requires
-    enum-told-7
-    enum-told-8
-    refused-requires-4
-    returns-4
     arrangement-of-requires
     terms-in-requires
     sides-of-requires
-    returns-5)
+    returns-2)

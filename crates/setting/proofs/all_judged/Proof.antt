@@ -5,16 +5,15 @@ use Prim.Native.Nat.{ℕ, _-_, _≤_, _<_}
 use native.Mathlib.Omega.{arith}
 use lib.ListN.{length, getD, length-set}
 use Rattle.laws.proofs.Filled.{filled-more, left-more}
-use Rattle.book.specs.Book.{beyond}
-use Rattle.book.specs.Sound.{Holds}
-use Rattle.setting.specs.Setting.{underFigures}
+use Rattle.book.specs.Book.{beyond, under}
+use Rattle.stands.specs.Stands.{Holds}
 use Rattle.setting.proofs.Under.{judged-alike}
 use borrow.Author.Needs.{needs}
 use Rattle.setting.proofs.all_judged.Statement.{statement}
 use Rattle.setting.proofs.all_judged.Tie as tie
 
 abbrev Inv-loop : tie.InvT-loop
-Inv-loop figures next₀ i₀ next i = (i ≤ 32) × (length next ≡ 32) × ((j : ℕ) → j < i → getD next j beyond ≡ underFigures figures (getD next₀ j beyond)) × ((j : ℕ) → i ≤ j → getD next j beyond ≡ getD next₀ j beyond)
+Inv-loop figures next₀ i₀ next i = (i ≤ 32) × (length next ≡ 32) × ((j : ℕ) → j < i → getD next j beyond ≡ under figures (getD next₀ j beyond)) × ((j : ℕ) → i ≤ j → getD next j beyond ≡ getD next₀ j beyond)
 
 abbrev μ-loop : tie.MeasureT-loop
 μ-loop figures next₀ i₀ next i = 32 - i
@@ -32,7 +31,7 @@ judged-requires : tie.Need-judged-requires Inv-loop μ-loop
 judged-requires c κs =
     let st = c .before .before .before in
     let lp = c .before .before .loop in
-    (st .pre .0, subst Holds (sym (lp .inv .3 (lp .i) (omega arith))) (st .pre .1 (lp .i)))
+    (st .pre .0, subst Holds (sym (lp .inv .3 (lp .i) (omega arith))) (st .pre .1 (lp .i) (omega arith)))
 
 mul-next : tie.Need-mul-next Inv-loop μ-loop
 mul-next c = search needs
@@ -53,8 +52,8 @@ loop-again c =
     let t = c .before .before .loop-test .taken in (
       omega arith,
       length-set (lp .next) (lp .i) (c .judged .result) ∙ lp .inv .1,
-      filled-more beyond (lp .next) (lp .i) (c .judged .result) (λ j. underFigures (st .args .figures) (getD (st .args .places) j beyond))
-          (omega (arith, lp .inv .1)) (lp .inv .2) (c .judged .ensures ∙ ap (underFigures (st .args .figures)) (lp .inv .3 (lp .i) (omega arith))),
+      filled-more beyond (lp .next) (lp .i) (c .judged .result) (λ j. under (st .args .figures) (getD (st .args .places) j beyond))
+          (omega (arith, lp .inv .1)) (lp .inv .2) (c .judged .ensures ∙ ap (under (st .args .figures)) (lp .inv .3 (lp .i) (omega arith))),
       left-more beyond (lp .next) (lp .i) (c .judged .result) (λ j. getD (st .args .places) j beyond) (lp .inv .3),
     )
 

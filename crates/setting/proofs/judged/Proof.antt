@@ -1,8 +1,14 @@
 -- `setting::judged` meets its contract.
 -- Assumes nothing.
-use mathlib.Core.Path.{_∙_, subst}
+use mathlib.Core.Path.{sym, _∙_, ap, subst}
 use Rattle.verdict.specs.Found.{Finds}
-use Rattle.setting.proofs.Under.{empty-kept, draft-kept, is-valid, open-kept, open-fallen}
+use mathlib.Core.Option.{some}
+use Rattle.book.specs.declared.State.{State}
+use Rattle.book.specs.Book.{tariffIn}
+use Rattle.tariff.specs.Tariff.{validTariff}
+use Rattle.verdict.specs.Cells.{firstOver}
+use Rattle.stands.specs.Stands.{HoldsAs}
+use Rattle.setting.proofs.Under.{empty-kept, draft-kept, open-judged, open-kept}
 use borrow.Author.Needs.{needs}
 use Rattle.setting.proofs.judged.Statement.{statement}
 use Rattle.setting.proofs.judged.Tie as tie
@@ -20,7 +26,10 @@ tariff-in-requires : tie.Need-tariff-in-requires
 tariff-in-requires c κs = search needs
 
 first-over-requires : tie.Need-first-over-requires
-first-over-requires c κs = let st = c .before .before .before in (st .pre .0, is-valid (st .args .figures) (st .args .p) (st .pre .1) (c .before .enum-told3 .given .1) (c .tariff-in .result) (c .tariff-in .ensures))
+first-over-requires c κs =
+    let st = c .before .before .before in
+    let valid = subst (λ (q : State). HoldsAs q (tariffIn (st .args .p))) (c .before .enum-told3 .given .1) (st .pre .1) in
+    (st .pre .0, ap validTariff (c .tariff-in .ensures) ∙ valid)
 
 enum-told-4 : tie.Need-enum-told-4
 enum-told-4 c = search needs
@@ -41,16 +50,18 @@ returns-3 : tie.Need-returns-3
 returns-3 c =
     let t = c .before .before .before in
     let st = t .before .before .before in
-    open-kept (st .args .figures) (st .args .p) (st .pre .1) (t .before .enum-told3 .given .1) (t .tariff-in .result) (t .tariff-in .ensures)
-    (subst (Finds (st .args .figures) (t .tariff-in .result)) (c .enum-told4 .given .1) (c .before .before .first-over .ensures))
+    open-kept (st .args .figures) (st .args .p) (t .before .enum-told3 .given .1)
+    (ap (firstOver (st .args .figures)) (sym (t .tariff-in .ensures))
+    ∙ subst (Finds (st .args .figures) (t .tariff-in .result)) (c .enum-told4 .given .1) (c .before .before .first-over .ensures))
 
 returns-4 : tie.Need-returns-4
 returns-4 c =
     let t = c .before .before .before .before in
     let st = t .before .before .before in
     c .in-state .ensures
-    ∙ open-fallen (st .args .figures) (st .args .p) (st .pre .1) (t .before .enum-told3 .given .1) (t .tariff-in .result) (t .tariff-in .ensures) _
-    (subst (Finds (st .args .figures) (t .tariff-in .result)) (c .before .enum-told5 .given .1) (c .before .before .before .first-over .ensures) .0)
+    ∙ open-judged (st .args .figures) (st .args .p) (t .before .enum-told3 .given .1) (some _)
+    (ap (firstOver (st .args .figures)) (sym (t .tariff-in .ensures))
+    ∙ subst (Finds (st .args .figures) (t .tariff-in .result)) (c .before .enum-told5 .given .1) (c .before .before .before .first-over .ensures) .0)
 
 pub judged-spec : {M : Type 1} → statement M
 judged-spec =

@@ -3,7 +3,6 @@
 use mathlib.Core.Path.{_≡_, sym, _∙_, ap, subst}
 use mathlib.Core.Bool.{true}
 use mathlib.Core.List.{map}
-use Prim.Native.Nat.{suc}
 use Rattle.refusal.specs.declared.Check.{Check}
 use Rattle.refusal.specs.declared.Check.the-variants.{Pass}
 use Rattle.benchmark.specs.declared.Benchmarks.{Benchmarks}
@@ -11,12 +10,11 @@ use Rattle.benchmark.specs.Benchmark.{benchmarksOf, setCheck}
 use Rattle.benchmark.specs.Lawful.{Lawful}
 use Rattle.benchmark.specs.Working.{workedIf}
 use Rattle.benchmark.proofs.Lawful.{lawful, passed-count}
-use Rattle.book.proofs.Reached.{reached}
-use Rattle.book.proofs.Steps.{hands-on, accepts, set-refused, set-passed}
-use Rattle.book.specs.Book.{under}
 use Rattle.book.specs.Calls.{sheetAt}
-use Rattle.setting.specs.Setting.{underFigures}
-use Rattle.setting.proofs.Under.{under-alike}
+use Rattle.book.specs.Checks.{figuresOf}
+use Rattle.book.specs.Book.{under}
+use Rattle.book.proofs.Steps.{set-refuses, set-accepts}
+use Rattle.stands.proofs.InForce.{holds-at}
 use borrow.Author.Needs.{needs}
 use Rattle.setting.proofs.set.Statement.{statement}
 use Rattle.setting.proofs.set.Tie as tie
@@ -41,25 +39,24 @@ enum-told c = search needs
 enum-told-2 : tie.Need-enum-told-2
 enum-told-2 c = search needs
 
-refused-requires : tie.Need-refused-requires
-refused-requires c κs = search needs
+answered-requires : tie.Need-answered-requires
+answered-requires c κs = search needs
 
 returns : tie.Need-returns
 returns c =
     let w = c .before .before .before in
     let st = w .before .before in
-    let told = c .before .enum-told2 .given .1 in
     let s = sheetAt (st .args .fields .now) (st .args .period) in
-    hands-on (st .args .b) _ _ (w .work-out .result .check) _ told (set-refused (st .args .b) s _ (sym (w .work-out .ensures .0) ∙ told)) (c .refused .ensures)
+    rw (c .answered .ensures) (set-refuses (st .args .b) s _ _ (w .work-out .ensures .0) (c .before .enum-told2 .given .1))
 
 fields-of-requires : tie.Need-fields-of-requires
 fields-of-requires c κs = let st = c .before .before .before .before .before in passed-count (st .args .fields .now) (st .args .period) (passed (c .before))
 
 all-judged-requires : tie.Need-all-judged-requires
-all-judged-requires c κs = let st = c .before .before .before .before .before .before .before in (fit (c .before .before .before), λ i. reached (st .args .b) (st .pre) .places (suc i))
+all-judged-requires c κs = let st = c .before .before .before .before .before .before .before in (fit (c .before .before .before), holds-at (st .args .b) (st .pre))
 
-accepted-requires : tie.Need-accepted-requires
-accepted-requires c κs = search needs
+answered-requires-2 : tie.Need-answered-requires-2
+answered-requires-2 c κs = search needs
 
 returns-2 : tie.Need-returns-2
 returns-2 c =
@@ -68,13 +65,11 @@ returns-2 c =
     let b = st .args .b in
     let figures = worked t in
     let s = sheetAt (st .args .fields .now) (st .args .period) in
-    let places : c .before .all-judged .result ≡ map (under s) (b .places) =
-    c .before .all-judged .ensures ∙ ap (λ (f : Benchmarks). map (underFigures f) (b .places)) figures ∙ under-alike s (b .places) in
-    accepts b _ _ (set-passed b s (passed t)) (
-      c .accepted .ensures .0,
-      c .accepted .ensures .1,
-      c .accepted .ensures .2 ∙ (λ i. record { loaded = true; fields = c .before .before .before .fields-of .ensures i; period = st .args .period; benchmarks = figures i; places = places i }),
-    )
+    let places : c .before .all-judged .result ≡ map (under (figuresOf s)) (b .places) =
+    c .before .all-judged .ensures ∙ ap (λ (f : Benchmarks). map (under f) (b .places)) figures in
+    rw (c .answered2 .ensures)
+    (set-accepts b s _ (t .before .before .work-out .ensures .0) (t .enum-told .given .1) _
+    (λ i. record { loaded = true; fields = c .before .before .before .fields-of .ensures i; period = st .args .period; benchmarks = figures i; places = places i }))
 
 pub set-spec : {M : Type 1} → statement M
 set-spec =
@@ -83,9 +78,9 @@ set-spec =
     work-out-requires
     enum-told
     enum-told-2
-    refused-requires
+    answered-requires
     returns
     fields-of-requires
     all-judged-requires
-    accepted-requires
+    answered-requires-2
     returns-2)

@@ -1,0 +1,57 @@
+-- `codes::settle` meets its contract, act by act.
+-- Assumes nothing.
+use mathlib.Core.Path.{sym, subst}
+use Rattle.codes.specs.declared.CodeAct.{CodeAct}
+use Rattle.codes.specs.Codes.{SettlesOn, Judgeable}
+use borrow.Author.Needs.{needs}
+use Rattle.codes.proofs.settle.Statement.{statement}
+use Rattle.codes.proofs.settle.Tie as tie
+
+enum-told : tie.Need-enum-told
+enum-told c = search needs
+
+open-at-requires : tie.Need-open-at-requires
+open-at-requires c κs =
+    let st = c .before .before in
+    subst (λ (a : CodeAct). Judgeable a (st .args .p) (st .args .loaded) (st .args .figures)) (c .enum-told .given .1) (st .pre)
+
+enum-told-2 : tie.Need-enum-told-2
+enum-told-2 c = search needs
+
+close-at-requires : tie.Need-close-at-requires
+close-at-requires c κs = search needs
+
+enum-told-3 : tie.Need-enum-told-3
+enum-told-3 c = search needs
+
+drop-at-requires : tie.Need-drop-at-requires
+drop-at-requires c κs = search needs
+
+returns : tie.Need-returns
+returns c =
+    let a = c .before .before .before .args in
+    subst (λ (b : CodeAct). SettlesOn b (a .code) (a .p) (a .loaded) (a .figures) (c .open-at .result)) (sym (c .before .enum-told .given .1)) (c .open-at .ensures)
+
+returns-2 : tie.Need-returns-2
+returns-2 c =
+    let a = c .before .before .before .args in
+    subst (λ (b : CodeAct). SettlesOn b (a .code) (a .p) (a .loaded) (a .figures) (c .close-at .result)) (sym (c .before .enum-told2 .given .1)) (c .close-at .ensures)
+
+returns-3 : tie.Need-returns-3
+returns-3 c =
+    let a = c .before .before .before .args in
+    subst (λ (b : CodeAct). SettlesOn b (a .code) (a .p) (a .loaded) (a .figures) (c .drop-at .result)) (sym (c .before .enum-told3 .given .1)) (c .drop-at .ensures)
+
+pub settle-spec : {M : Type 1} → statement M
+settle-spec =
+    tie.close
+    (tie.spec
+    enum-told
+    open-at-requires
+    enum-told-2
+    close-at-requires
+    enum-told-3
+    drop-at-requires
+    returns
+    returns-2
+    returns-3)

@@ -9,8 +9,8 @@ ghost use Prim.Native.Nat.{_≤_};
 ghost use lib.ListN.{drop, replicate};
 ghost use Rattle.benchmark.specs.Lawful.{Lawful};
 ghost use Rattle.tariff.specs.Tariff.{tariffOf};
-ghost use Rattle.book.specs.Calls.{PUT, OPEN, CLOSE, DROP, call, accepted};
-ghost use Rattle.book.specs.Book.{placeWith, Reachable};
+ghost use Rattle.book.specs.Calls.{PUT, call, accepted};
+ghost use Rattle.book.specs.Book.{placeWith};
 ghost use Rattle.book.specs.Promises.{Does};
 ghost use Rattle.book.specs.Settling.{Settles};
 ghost use Rattle.stands.specs.Stands.{Holds};
@@ -51,8 +51,9 @@ fn open_at(code: u32, p: Place, loaded: bool, figures: Benchmarks) -> Settled
     requires { ⌜ (loaded ≡ true → Lawful figures) × Holds p ⌝ }
     ensures { λ r. ⌜ SettlesOn CodeAct.Open code p loaded figures r ⌝ }
 {
-    let shut = refusal::first(book::open_check(p), book::sheet_check(loaded));
-    let checked = book::held_check(code, p, shut);
+    let shut = book::open_check(p);
+    let sheet = book::sheet_check(loaded);
+    let checked = book::held_check(code, p, refusal::first(shut, sheet));
     let Check::Pass = checked else {
         return book::settled_by(checked, p, p);
     };
@@ -88,7 +89,8 @@ fn drop_at(code: u32, p: Place, loaded: bool, figures: Benchmarks) -> Settled
     ensures { λ r. ⌜ SettlesOn CodeAct.Drop code p loaded figures r ⌝ }
 {
     let checked = book::held_check(code, p, book::open_check(p));
-    book::settled_by(checked, p, book::empty_place())
+    let nothing = book::empty_place();
+    book::settled_by(checked, p, nothing)
 }
 
 fn settle(act: CodeAct, code: u32, p: Place, loaded: bool, figures: Benchmarks) -> Settled
@@ -102,7 +104,7 @@ fn settle(act: CodeAct, code: u32, p: Place, loaded: bool, figures: Benchmarks) 
     }
 }
 
-// The place of the code is read, settled and stored again.
+// OPEN, CLOSE or DROP: the place of the code is read, settled and stored again.
 pub fn act_on(b: Book, code: u32, act: CodeAct) -> Done
     requires { ⌜ Handed act b ⌝ }
     ensures { λ r. ⌜ Does b (call (actOn act code)) r ⌝ }
@@ -123,31 +125,14 @@ pub fn act_on(b: Book, code: u32, act: CodeAct) -> Done
     }
 }
 
-pub fn open(b: Book, code: u32) -> Done
-    requires { ⌜ Reachable b ⌝ }
-    ensures { λ r. ⌜ Does b (call (OPEN code)) r ⌝ }
-{
-    act_on(b, code, CodeAct::Open)
-}
-
-pub fn close(b: Book, code: u32) -> Done
-    ensures { λ r. ⌜ Does b (call (CLOSE code)) r ⌝ }
-{
-    act_on(b, code, CodeAct::Close)
-}
-
-pub fn drop(b: Book, code: u32) -> Done
-    ensures { λ r. ⌜ Does b (call (DROP code)) r ⌝ }
-{
-    act_on(b, code, CodeAct::Drop)
-}
-
 // PUT (code, tariff). 6, 7, 8. Else the place holds it as a draft, over any draft.
 fn put_at(code: u32, p: Place, x: &[u32]) -> Settled
     ensures { λ r. ⌜ Settles (putChecks code (p .state) (now (x .entry))) accepted p (placeWith State.Draft (tariffOf (now (x .entry)))) r ⌝ }
 {
-    let shut = refusal::first(book::open_check(p), tariff::check(x));
-    let checked = refusal::first(book::code_check(code), shut);
+    let inside = book::code_check(code);
+    let shut = book::open_check(p);
+    let record = tariff::check(x);
+    let checked = refusal::first(inside, refusal::first(shut, record));
     let Check::Pass = checked else {
         return book::settled_by(checked, p, p);
     };

@@ -9,6 +9,7 @@ ghost use lib.ListN.{length};
 ghost use Rattle.book.specs.Book.{Reachable};
 use book::Book;
 use book::Reply;
+use codes::CodeAct;
 use calendar::Period;
 use libc::STDOUT_FILENO;
 use queries::Told;
@@ -259,7 +260,7 @@ fn with_drafts(standing: u32) -> Book
     let mut k: u32 = 0;
     while k < 32 {
         let record = tiered(k, standing);
-        let did = book::put(b, k + 1, &record);
+        let did = codes::put(b, k + 1, &record);
         let after = did.book;
         b = after;
         k += 1;
@@ -275,9 +276,9 @@ fn with_open() -> Book
     let mut k: u32 = 0;
     while k < 32 {
         let record = mixed(k);
-        let put = book::put(b, k + 1, &record);
+        let put = codes::put(b, k + 1, &record);
         let draft = put.book;
-        let did = opening::open(draft, k + 1);
+        let did = codes::act_on(draft, k + 1, CodeAct::Open);
         let after = did.book;
         b = after;
         k += 1;
@@ -292,7 +293,7 @@ fn fold_book(b: Book, sum: u64) -> u64
     let mut total = sum;
     let mut k: u32 = 0;
     while k < 32 {
-        let did = book::close(b, k + 1);
+        let did = codes::act_on(b, k + 1, CodeAct::Close);
         let reply = did.reply;
         let told = queries::benchmark(b, k % 14, k % 2, k / 2 % 2, k / 4 % 2);
         total = fold_told(fold_reply(total, reply), told);
@@ -338,10 +339,10 @@ fn opens(n: u64) -> u64 {
     while i < n {
         x = next(x);
         let code = 1 + drawn(x, 32);
-        let did = opening::open(b, code);
+        let did = codes::act_on(b, code, CodeAct::Open);
         let reply = did.reply;
         let opened = did.book;
-        let undid = book::close(opened, code);
+        let undid = codes::act_on(opened, code, CodeAct::Close);
         let answer = undid.reply;
         let after = undid.book;
         b = after;
@@ -358,7 +359,7 @@ fn overs(n: u64) -> u64 {
     let mut i: u64 = 0;
     while i < n {
         x = next(x);
-        let did = opening::open(b, 1 + drawn(x, 32));
+        let did = codes::act_on(b, 1 + drawn(x, 32), CodeAct::Open);
         let reply = did.reply;
         let months = did.months;
         let after = did.book;

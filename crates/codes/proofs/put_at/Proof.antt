@@ -42,8 +42,9 @@ settled-by-requires c κs = search needs
 -- the checks, one after the other
 checks : (c : tie.After-first2) → c .first2 .result ≡ putChecks (c .before .before .before .before .before .before .args .code) (c .before .before .before .before .before .before .args .p .state) (now (c .before .before .before .before .before .before .args .x))
 checks c =
-    let s = c .before .before in
-    c .first2 .ensures ∙ ap₂ first (c .before .code-check .ensures) (s .first .ensures ∙ ap₂ first (s .before .before .open-check .ensures) (s .before .check .ensures))
+    let i = c .before .before .before .before in
+    c .first2 .ensures
+    ∙ ap₂ first (i .code-check .ensures) (c .before .first .ensures ∙ ap₂ first (c .before .before .before .open-check .ensures) (c .before .before .check .ensures))
 
 returns : tie.Need-returns
 returns c = refused-by _ _ _ _ _ _ _ _ (c .settled-by .ensures) (checks (c .before .before .before)) (c .before .enum-told2 .given .1)
@@ -70,10 +71,10 @@ pub put-at-spec : {M : Type 1} → statement M
 put-at-spec =
     tie.close
     (tie.spec
+    code-check-requires
     open-check-requires
     check-requires
     first-requires
-    code-check-requires
     first-requires-2
     enum-told
     enum-told-2

@@ -14,11 +14,11 @@ abbrev μ-loop : tie.MeasureT-loop
 loop-holds : tie.Need-loop-holds Inv-loop μ-loop
 loop-holds c = search needs
 
-add-close : tie.Need-add-close Inv-loop μ-loop
-add-close c = search needs
+add-act-on : tie.Need-add-act-on Inv-loop μ-loop
+add-act-on c = search needs
 
-close-requires : tie.Need-close-requires Inv-loop μ-loop
-close-requires c κs = search needs
+act-on-requires : tie.Need-act-on-requires Inv-loop μ-loop
+act-on-requires c κs = search needs
 
 benchmark-requires : tie.Need-benchmark-requires Inv-loop μ-loop
 benchmark-requires c κs = search needs
@@ -48,8 +48,8 @@ fold-book-spec =
     Inv-loop
     μ-loop
     loop-holds
-    add-close
-    close-requires
+    add-act-on
+    act-on-requires
     benchmark-requires
     fold-reply-requires
     fold-told-requires

@@ -29,11 +29,11 @@ drawn-requires c κs = search needs
 add-code : tie.Need-add-code Inv-loop μ-loop
 add-code c = search needs
 
-open-requires : tie.Need-open-requires Inv-loop μ-loop
-open-requires c κs = search needs
+act-on-requires : tie.Need-act-on-requires Inv-loop μ-loop
+act-on-requires c κs = search needs
 
-close-requires : tie.Need-close-requires Inv-loop μ-loop
-close-requires c κs = search needs
+act-on-requires-2 : tie.Need-act-on-requires-2 Inv-loop μ-loop
+act-on-requires-2 c κs = search needs
 
 fold-reply-requires : tie.Need-fold-reply-requires Inv-loop μ-loop
 fold-reply-requires c κs = search needs
@@ -48,7 +48,7 @@ loop-less : tie.Need-loop-less Inv-loop μ-loop
 loop-less c = search needs
 
 loop-again : tie.Need-loop-again Inv-loop μ-loop
-loop-again c = (omega arith, does-reachable (does-reachable (c .before .before .before .before .before .before .before .before .before .loop .inv .1) (c .before .before .before .before .before .«open» .ensures)) (c .before .before .before .close .ensures))
+loop-again c = (omega arith, does-reachable (does-reachable (c .before .before .before .before .before .before .before .before .before .loop .inv .1) (c .before .before .before .before .before .act-on .ensures)) (c .before .before .before .act-on2 .ensures))
 
 returns : tie.Need-returns Inv-loop μ-loop
 returns c = search needs
@@ -64,8 +64,8 @@ opens-spec =
     next-requires
     drawn-requires
     add-code
-    open-requires
-    close-requires
+    act-on-requires
+    act-on-requires-2
     fold-reply-requires
     fold-reply-requires-2
     add-i

@@ -26,11 +26,11 @@ next-requires c κs = search needs
 drawn-requires : tie.Need-drawn-requires Inv-loop μ-loop
 drawn-requires c κs = search needs
 
-add-open : tie.Need-add-open Inv-loop μ-loop
-add-open c = search needs
+add-act-on : tie.Need-add-act-on Inv-loop μ-loop
+add-act-on c = search needs
 
-open-requires : tie.Need-open-requires Inv-loop μ-loop
-open-requires c κs = search needs
+act-on-requires : tie.Need-act-on-requires Inv-loop μ-loop
+act-on-requires c κs = search needs
 
 fold-reply-requires : tie.Need-fold-reply-requires Inv-loop μ-loop
 fold-reply-requires c κs = search needs
@@ -60,7 +60,7 @@ loop-less : tie.Need-loop-less Inv-loop μ-loop
 loop-less c = search needs
 
 loop-again : tie.Need-loop-again Inv-loop μ-loop
-loop-again c = (omega arith, does-reachable (c .before .before .before .before .before .before .before .before .before .before .before .loop .inv .1) (c .before .before .before .before .before .before .before .«open» .ensures))
+loop-again c = (omega arith, does-reachable (c .before .before .before .before .before .before .before .before .before .before .before .loop .inv .1) (c .before .before .before .before .before .before .before .act-on .ensures))
 
 returns : tie.Need-returns Inv-loop μ-loop
 returns c = search needs
@@ -75,8 +75,8 @@ overs-spec =
     loop-holds
     next-requires
     drawn-requires
-    add-open
-    open-requires
+    add-act-on
+    act-on-requires
     fold-reply-requires
     array-read-wide
     wide-requires

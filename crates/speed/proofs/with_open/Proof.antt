@@ -32,11 +32,11 @@ slice-aggregate-put c = search needs
 put-requires : tie.Need-put-requires Inv-loop μ-loop
 put-requires c κs = search needs
 
-add-open : tie.Need-add-open Inv-loop μ-loop
-add-open c = search needs
+add-act-on : tie.Need-add-act-on Inv-loop μ-loop
+add-act-on c = search needs
 
-open-requires : tie.Need-open-requires Inv-loop μ-loop
-open-requires c κs = does-reachable (c .before .before .before .before .before .loop .inv .1) (c .before .put .ensures)
+act-on-requires : tie.Need-act-on-requires Inv-loop μ-loop
+act-on-requires c κs = does-reachable (c .before .before .before .before .before .loop .inv .1) (c .before .put .ensures)
 
 add-k : tie.Need-add-k Inv-loop μ-loop
 add-k c = search needs
@@ -45,7 +45,7 @@ loop-less : tie.Need-loop-less Inv-loop μ-loop
 loop-less c = search needs
 
 loop-again : tie.Need-loop-again Inv-loop μ-loop
-loop-again c = (omega arith, does-reachable (does-reachable (c .before .before .before .before .before .before .before .loop .inv .1) (c .before .before .before .put .ensures)) (c .before .«open» .ensures))
+loop-again c = (omega arith, does-reachable (does-reachable (c .before .before .before .before .before .before .before .loop .inv .1) (c .before .before .before .put .ensures)) (c .before .act-on .ensures))
 
 returns : tie.Need-returns Inv-loop μ-loop
 returns c = search needs
@@ -62,8 +62,8 @@ with-open-spec =
     add-put
     slice-aggregate-put
     put-requires
-    add-open
-    open-requires
+    add-act-on
+    act-on-requires
     add-k
     loop-less
     loop-again

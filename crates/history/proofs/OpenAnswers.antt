@@ -27,7 +27,7 @@ use Rattle.verdict.proofs.Count.{cells-counted}
 use Rattle.book.specs.Calls.{Sheet, Act, OPEN, opened, refused, isNone}
 use Rattle.book.specs.Checks.{figuresOf, complies, inside, verdictAnswer, answer}
 use Rattle.history.specs.History.{sheetOf, tariffAt, openOf, readings}
-use Rattle.history.specs.Claim.{cellTerms, excessIn, MonthsOf, ExceedsSomewhere, Shows, DraftWhere, cellsOffered, OpenAnswer}
+use Rattle.history.specs.Claim.{numbersIn, excessIn, MonthsOf, ExceedsSomewhere, Shows, DraftWhere, cellsOffered, OpenAnswer}
 
 -- each of the worst months is the smallest of greatest share
 each-worst : (e : Terms) (x : Tariff) (i : ℕ) → i < length (worstMonths e x)
@@ -49,15 +49,15 @@ module _ (s : Sheet) (x : Tariff) where
   pub nowhere-above : firstOver (figuresOf s) x ≡ none
       → (c : Cell) → Offered x c → (months : List ℕ) → MonthsOf s months → excessIn s x c months ≤ℤ pos 0
   unfolding terms
-  nowhere-above e c o months h = at-most (cellTerms s x c) x (none-exceeds (figuresOf s) x e c o) months h
+  nowhere-above e c o months h = at-most (numbersIn s x c) x (none-exceeds (figuresOf s) x e c o) months h
 
   -- what answer 11 shows
   shown : (c : Cell) → firstOver (figuresOf s) x ≡ some c
-      → Shows s x c (worstMonths (cellTerms s x c) x) (excessIn s x c (worstMonths (cellTerms s x c) x))
+      → Shows s x c (worstMonths (numbersIn s x c) x) (excessIn s x c (worstMonths (numbersIn s x c) x))
   unfolding terms
   shown c e =
       let f = first-exceeds (figuresOf s) x c e in
-      let t = cellTerms s x c in
+      let t = numbersIn s x c in
       record {
         cell = f .0;
         first = f .2;

@@ -27,12 +27,12 @@ use Rattle.history.specs.History.{sheetOf, tariffAt, openOf, acceptedOf,
 abbrev pub OpenIn : Book → ℕ → Tariff → Type 0
 OpenIn b k x = held (placeOf (b .places) k) ≡ some (holding x true)
 
--- the numbers of a cell, with a sheet's figures, and the excess of months there
-abbrev pub cellTerms : Sheet → Tariff → Cell → Terms
-cellTerms s x c = terms (figuresOf s) x c
+-- the numbers of a tariff's cell, with a sheet's figures, and the excess of months there
+abbrev pub numbersIn : Sheet → Tariff → Cell → Terms
+numbersIn s x c = terms (figuresOf s) x c
 
 abbrev pub excessIn : Sheet → Tariff → Cell → List ℕ → ℤ
-excessIn s x c months = excess (cellTerms s x c) x months
+excessIn s x c months = excess (numbersIn s x c) x months
 
 -- a list of t monthly consumptions, t that of the sheet's period
 abbrev pub MonthsOf : Sheet → List ℕ → Type 0
@@ -50,7 +50,7 @@ pub record Shows (s : Sheet) (x : Tariff) (c : Cell) (months : List ℕ) (e : �
   -- "t monthly consumptions of greatest excess, each the smallest at which a month's share of the excess is greatest"
   pub consumptions : MonthsOf s months
   pub greatest : (others : List ℕ) → MonthsOf s others → excessIn s x c others ≤ℤ e
-  pub smallest : (i : ℕ) → i < length months → Greatest (share (cellTerms s x c) x) monthMost (getD months i 0)
+  pub smallest : (i : ℕ) → i < length months → Greatest (share (numbersIn s x c) x) monthMost (getD months i 0)
   -- "The excess in answer 11 is that of its months in its cell", and above 0
   pub is-excess : e ≡ excessIn s x c months
   pub above : pos 0 <ℤ e

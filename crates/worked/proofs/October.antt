@@ -42,7 +42,7 @@ unfolding benchmarksOf figures figure tabulate tabulateFrom benchmark wc pc oc n
 is-known = refl
 
 pub october-accepted : setCheck sheetS octoberPeriod ≡ Pass
-unfolding setCheck fieldsInRange fieldInRange rangeOf every termsFit fourFit paacFits ordered periodInRange figures figure tabulate tabulateFrom benchmark wc pc oc nc paenc headroom panc indexed round sheetS times
+unfolding setCheck fieldsInRange fieldInRange rangeOf every termsFit fourFit paacFits ordered periodInRange figures figure tabulate tabulateFrom benchmark wc pc oc nc paenc headroom panc indexed round sheetS times periodDays monthBegins lengthAt monthLength leapYear hundredths ends Rising recordCheck validTariff validKind singleRegister economy7 multiRegister ratesWithin zeroFrom within rising
 october-accepted = refl
 
 on-known : (x : List ℕ) (v : Verdict) → length (hundredths (tariffOf x)) ≡ suc (length (ends (tariffOf x))) → Rising 0 (ends (tariffOf x)) 10000
@@ -66,9 +66,9 @@ unfolding hundredths ends Rising
 october-close = on-known (flat 23960 18000) _ refl (lit< tt) close-computed
 
 pub close-record : recordCheck (flat 23960 18000) ≡ Pass
-unfolding recordCheck validTariff validKind singleRegister economy7 multiRegister ratesWithin zeroFrom within rising every
+unfolding setCheck fieldsInRange fieldInRange rangeOf every termsFit fourFit paacFits ordered periodInRange figures figure tabulate tabulateFrom benchmark wc pc oc nc paenc headroom panc indexed round sheetS times periodDays monthBegins lengthAt monthLength leapYear hundredths ends Rising recordCheck validTariff validKind singleRegister economy7 multiRegister ratesWithin zeroFrom within rising
 close-record = refl
 
 pub high-record : recordCheck (flat 23961 18000) ≡ Pass
-unfolding recordCheck validTariff validKind singleRegister economy7 multiRegister ratesWithin zeroFrom within rising every
+unfolding setCheck fieldsInRange fieldInRange rangeOf every termsFit fourFit paacFits ordered periodInRange figures figure tabulate tabulateFrom benchmark wc pc oc nc paenc headroom panc indexed round sheetS times periodDays monthBegins lengthAt monthLength leapYear hundredths ends Rising recordCheck validTariff validKind singleRegister economy7 multiRegister ratesWithin zeroFrom within rising
 high-record = refl

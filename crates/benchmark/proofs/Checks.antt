@@ -11,6 +11,7 @@ use borrow.Author.Tests.{eq-eqb}
 use Rattle.refusal.specs.declared.Check.{Check}
 use Rattle.refusal.specs.declared.Check.the-variants.{Pass, Refuse}
 use Rattle.refusal.specs.Checks.{unless}
+use Rattle.refusal.proofs.Checks.{unless-refuses}
 use Rattle.calendar.specs.declared.Period.{Period}
 use Rattle.calendar.specs.Calendar.{periodInRange}
 use Rattle.sheet.specs.Sheet.{fieldsInRange, termsFit}
@@ -18,16 +19,6 @@ use Rattle.sheet.specs.Ranged.{Ranged, Indexed}
 use Rattle.benchmark.specs.declared.Worked.{Worked}
 use Rattle.benchmark.specs.Benchmark.{figures, ordered, benchmarksOf, setCheck, noBenchmarks}
 use Rattle.benchmark.specs.Working.{workedIf}
-
--- a check that passes has its test true, and the checks after it pass
-pub unless-passes : (t : Bool) (n : ℕ) (next : Check) → unless t n next ≡ Pass → (t ≡ true) × (next ≡ Pass)
-unless-passes true n next e = (refl, e)
-unless-passes false n next e = absurd (let z : _≡_ {A = ℕ} 0 1 = cc in omega arith)
-
--- a check that refuses is the answer, whatever the checks after it say
-unless-refuses : (t : Bool) (k n : ℕ) (next : Check) → unless t k Pass ≡ Refuse n → unless t k next ≡ Refuse n
-unless-refuses true k n next e = absurd (let z : _≡_ {A = ℕ} 0 1 = cc in omega arith)
-unless-refuses false k n next e = e
 
 module _ (s : List ℕ) (p : Period) (n : ℕ) where
   pub first-refuses : unless (eqb (length s) 95) 1 Pass ≡ Refuse n → setCheck s p ≡ Refuse n

@@ -19,9 +19,9 @@ use Rattle.calendar.proofs.Lengths.{days-most}
 use Rattle.sheet.specs.Sheet.{field, fieldsInRange, termsFit}
 use Rattle.sheet.specs.Ranged.{Ranged, Indexed}
 use Rattle.sheet.proofs.Bounds.{level-some, level-most}
-use Rattle.benchmark.specs.Benchmark.{place, benchmark, figure, figures, ordered, benchmarksOf, setCheck}
+use Rattle.benchmark.specs.Benchmark.{figureIndex, benchmark, figure, figures, ordered, benchmarksOf, setCheck}
 use Rattle.benchmark.specs.Lawful.{Lawful}
-use Rattle.benchmark.proofs.Checks.{unless-passes}
+use Rattle.refusal.proofs.Checks.{unless-passes}
 use Rattle.benchmark.proofs.Commons.{benchmark-most}
 
 module _ (s : List ℕ) (p : Period) (e : setCheck s p ≡ Pass) where
@@ -57,7 +57,7 @@ module _ (s : List ℕ) (p : Period) (e : setCheck s p ≡ Pass) where
   pub passed-indexed : Indexed s
   passed-indexed = record { ranged = passed-ranged; terms = passed-terms }
 
--- each of the 112 figures, by its place: the paper's formula
+-- each of the 112 figures, by its index: the paper's formula
 pub figure-at-index : (s : List ℕ) (k : ℕ) → k < 112 → getD (figures s) k 0 ≡ figure s k
 unfolding figures
 figure-at-index s k h = getD-tabulate 112 (figure s) k h
@@ -66,9 +66,9 @@ pub figure-count : (s : List ℕ) → length (figures s) ≡ 112
 unfolding figures
 figure-count s = length-tabulate 112 (figure s)
 
-figure-of-place : (s : List ℕ) (r a p l : ℕ) → a < 2 → p < 2 → l < 2 → figure s (place r a p l) ≡ benchmark s r a p l
+figure-of-index : (s : List ℕ) (r a p l : ℕ) → a < 2 → p < 2 → l < 2 → figure s (figureIndex r a p l) ≡ benchmark s r a p l
 unfolding figure
-figure-of-place s r a p l ha hp hl =
+figure-of-index s r a p l ha hp hl =
     let k = 8 * r + 4 * a + 2 * p + l in
     let er : k / 8 ≡ r = omega arith in
     let ea : k / 4 % 2 ≡ a = omega arith in
@@ -76,9 +76,9 @@ figure-of-place s r a p l ha hp hl =
     let el : k % 2 ≡ l = omega arith in
     rw (er, ea, ep, el)
 
-pub charge-at-place :
-    (s : List ℕ) (r a p l : ℕ) → r < 14 → a < 2 → p < 2 → l < 2 → getD (figures s) (place r a p l) 0 ≡ benchmark s r a p l
-charge-at-place s r a p l hr ha hp hl = figure-at-index s (place r a p l) (omega arith) ∙ figure-of-place s r a p l ha hp hl
+pub charge-at-index :
+    (s : List ℕ) (r a p l : ℕ) → r < 14 → a < 2 → p < 2 → l < 2 → getD (figures s) (figureIndex r a p l) 0 ≡ benchmark s r a p l
+charge-at-index s r a p l hr ha hp hl = figure-at-index s (figureIndex r a p l) (omega arith) ∙ figure-of-index s r a p l ha hp hl
 
 module _ (s : List ℕ) (h : Indexed s) where
   figure-most : (k : ℕ) → k < 112 → figure s k ≤ 2400000000

@@ -61,9 +61,9 @@ benchmark s r a p l =
     let e = paenc s p costs in
     wc s f + nc s r f + pc s f + oc s f + headroom s a (costs + e) + e + panc s p (nc s r f)
 
--- The 112 figures in one list, by region, then arrangement, method and level: the place of a figure, and the figure of a place.
-abbrev pub place : ℕ → ℕ → ℕ → ℕ → ℕ
-place r a p l = 8 * r + 4 * a + 2 * p + l
+-- The 112 figures in one list, by region, then arrangement, method and level: the index of a figure, and the figure of an index.
+abbrev pub figureIndex : ℕ → ℕ → ℕ → ℕ → ℕ
+figureIndex r a p l = 8 * r + 4 * a + 2 * p + l
 
 unfoldable pub figure : List ℕ → ℕ → ℕ
 figure s k = benchmark s (k / 8) (k / 4 % 2) (k / 2 % 2) (k % 2)

@@ -1,5 +1,5 @@
 // The Benchmark Maximum Charge of 28AD.7 to 28AD.13, the 112 figures of a sheet, and SET's refusals 1 to 5.
-// Promise: each of the 112 figures is the paper's formula (proofs/Lawful.antt, `charge-at-place`); `work_out` answers SET's first
+// Promise: each of the 112 figures is the paper's formula (proofs/Lawful.antt, `charge-at-index`); `work_out` answers SET's first
 // refusal, or the figures with which tariffs are judged. What the layer above may use: `Benchmarks`, `benchmarksOf` and `setCheck`
 // of specs/Benchmark.antt, `Lawful` of specs/Lawful.antt, and `workedIf` of specs/Working.antt.
 ghost use mathlib.Core.Path.{_≡_};
@@ -11,7 +11,7 @@ ghost use Rattle.refusal.specs.Checks.{unless};
 ghost use Rattle.calendar.specs.Calendar.{periodInRange};
 ghost use Rattle.sheet.specs.Sheet.{fieldCount, fieldsInRange, termsFit, round};
 ghost use Rattle.sheet.specs.Ranged.{Ranged, Indexed};
-ghost use Rattle.benchmark.specs.Benchmark.{smncc, wc, pc, oc, paenc, nc, panc, figure, figures, ordered, benchmarksOf, setCheck, noBenchmarks};
+ghost use Rattle.benchmark.specs.Benchmark.{figureIndex, smncc, wc, pc, oc, paenc, nc, panc, figure, figures, ordered, benchmarksOf, setCheck, noBenchmarks};
 ghost use Rattle.benchmark.specs.Common.{common, commonAt, commons};
 ghost use Rattle.benchmark.specs.Working.{workedIf};
 use calendar::Period;
@@ -106,7 +106,15 @@ fn charge_at(s: &[u32], shared: u64, region: usize, f: usize, method: usize) -> 
     shared + network + ppm_of(s[18 + method], network)
 }
 
-// The figure at a place of the 112, where the part that no region is in is known.
+// The index of a figure among the 112.
+pub fn figure_index(region: usize, arrangement: usize, method: usize, level: usize) -> usize
+    requires { ⌜ (region < 14) × (arrangement < 2) × (method < 2) × (level < 2) ⌝ }
+    ensures { λ r. ⌜ (r ≡ figureIndex region arrangement method level) × (r < 112) ⌝ }
+{
+    8 * region + 4 * arrangement + 2 * method + level
+}
+
+// The figure at an index of the 112, where the part that no region is in is known.
 fn figure_at(s: &[u32], shared: u64, k: usize) -> u32
     requires { ⌜ Indexed (now s) × (k < 112) × (shared ≡ commonAt (now s) (k % 8)) ⌝ }
     ensures { λ r. ⌜ r ≡ figure (now (s .entry)) k ⌝ }

@@ -10,7 +10,6 @@ use Rattle.laws.proofs.Never.{never}
 use Rattle.refusal.specs.declared.Check.{Check}
 use Rattle.refusal.specs.declared.Check.the-variants.{Pass, Refuse}
 use Rattle.refusal.specs.Checks.{unless, first, checked, need}
-use Rattle.refusal.proofs.Laws.{need-checked}
 use Rattle.benchmark.specs.Benchmark.{setCheck}
 use Rattle.book.specs.declared.Place.{Place}
 use Rattle.book.specs.declared.Book.{Book}

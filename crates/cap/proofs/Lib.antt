@@ -1,6 +1,6 @@
-pub mod Scan
+pub mod Runs
 pub mod Worst
-pub mod Candidates
+pub mod Comparing
+pub mod Scanned
 pub mod Sizes
 pub mod Shares
-pub mod Verdicts

@@ -8,15 +8,17 @@ use lib.ListN.{length, getD}
 use borrow.Author.Tests.{lt-ltb, le-ltb}
 use Rattle.laws.proofs.Parts.{four}
 use Rattle.laws.proofs.Greatest.{better}
+use Rattle.laws.proofs.Pieces.{scan}
 use Rattle.cap.specs.declared.Corners.{Corners}
 use Rattle.cap.specs.declared.Share.{Share}
-use Rattle.cap.specs.Judged.{scan, Priced, Raised, room}
+use Rattle.charge.specs.Charge.{monthMost}
+use Rattle.cap.specs.Corners.{slopeMost, Priced, Raised, room}
 
 -- what the cap allows for a month's kWh is at most the room
-pub in-room : (slope at : ℕ) → slope ≤ 2880000000000 → at ≤ 10000 → slope * at ≤ room
+pub in-room : (slope at : ℕ) → slope ≤ slopeMost → at ≤ monthMost → slope * at ≤ room
 in-room slope at h k = mul-le-mul h k
 
-module _ (u : ℕ → ℕ) (slope at charged allowed : ℕ) (best : Share) (low : slope ≤ 2880000000000) (below : at ≤ 10000)
+module _ (u : ℕ → ℕ) (slope at charged allowed : ℕ) (best : Share) (low : slope ≤ slopeMost) (below : at ≤ monthMost)
     (allowed-is : allowed ≡ slope * at) (is : Raised u slope best) (priced : charged ≡ u at) where
   -- a corner of greater share
   pub takes : best .raised < charged + room - allowed

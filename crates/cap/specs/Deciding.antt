@@ -12,39 +12,40 @@ use Rattle.laws.specs.Notions.{total}
 use Rattle.laws.specs.Greatest.{Greatest}
 use Rattle.laws.proofs.Sums.{total-same, total-scaled, total-line}
 use Rattle.laws.proofs.Differences.{difference-above, above-difference}
-use Rattle.laws.proofs.Greatest.{Best, first-best, first-greatest, total-most}
+use Rattle.laws.proofs.Greatest.{Best, first-best, first-greatest, total-best}
 use Rattle.tariff.specs.declared.Tariff.{Tariff}
-use Rattle.charge.specs.Charge.{monthCharge}
+use Rattle.tariff.specs.Tariff.{wholeShare}
+use Rattle.charge.specs.Charge.{monthMost, monthCharge}
 use Rattle.charge.proofs.Months.{charge-monthly}
-use Rattle.cap.specs.declared.Terms.{Terms}
-use Rattle.cap.specs.Cap.{maximum, charged, capped, excess, Months, monthMost, Exceeds, share, worstMonth, worstMonths}
+use Rattle.cap.specs.declared.CellNumbers.{CellNumbers}
+use Rattle.cap.specs.Cap.{maximum, charged, capped, excess, Months, Exceeds, share, worstMonth, worstMonths}
 
 -- the part of each side that a month's kWh bring, and the parts that they do not change
-abbrev pub monthCharged : Terms → Tariff → ℕ → ℕ
-monthCharged e x kwh = 12 * e .m * monthCharge x kwh
+abbrev pub monthCharged : CellNumbers → Tariff → ℕ → ℕ
+monthCharged e x kwh = 12 * e .m * monthCharge (e .peak) x kwh
 
-abbrev pub monthCapped : Terms → ℕ → ℕ
-monthCapped e kwh = 1200 * (e .upper - e .lower) * kwh
+abbrev pub monthCapped : CellNumbers → ℕ → ℕ
+monthCapped e kwh = 12 * wholeShare * (e .upper - e .lower) * kwh
 
-abbrev pub fixedCharged : Terms → Tariff → ℕ
-fixedCharged e x = 12 * e .m * (100 * (x .standing * e .days))
+abbrev pub fixedCharged : CellNumbers → ℕ
+fixedCharged e = 12 * e .m * (wholeShare * (e .standing * e .days))
 
-abbrev pub fixedCapped : Terms → ℕ
-fixedCapped e = 100 * (e .lower * e .months * e .m)
+abbrev pub fixedCapped : CellNumbers → ℕ
+fixedCapped e = wholeShare * (e .lower * e .months * e .m)
 
-module _ (e : Terms) (x : Tariff) where
-  pub charged-monthly : (months : List ℕ) → charged e x months ≡ fixedCharged e x + total (monthCharged e x) months
+module _ (e : CellNumbers) (x : Tariff) where
+  pub charged-monthly : (months : List ℕ) → charged e x months ≡ fixedCharged e + total (monthCharged e x) months
   unfolding charged
   charged-monthly months =
       omega (
         arith,
-        ap (λ (c : ℕ). 12 * e .m * c) (charge-monthly x (e .days) months),
-        total-scaled (12 * e .m) (monthCharge x) months,
+        ap (λ (c : ℕ). 12 * e .m * c) (charge-monthly (e .standing) (e .days) (e .peak) x months),
+        total-scaled (12 * e .m) (monthCharge (e .peak) x) months,
       )
 
   pub capped-monthly : (months : List ℕ) → capped e months ≡ fixedCapped e + total (monthCapped e) months
   unfolding capped maximum
-  capped-monthly months = omega (arith, total-line (1200 * (e .upper - e .lower)) months)
+  capped-monthly months = omega (arith, total-line (12 * wholeShare * (e .upper - e .lower)) months)
 
   -- the worst month is the smallest of greatest share
   pub worst-best : Best (monthCharged e x) (monthCapped e) monthMost (worstMonth e x)
@@ -65,11 +66,13 @@ module _ (e : Terms) (x : Tariff) where
   equal-months w h = (length-replicate (e .months) w, same-at (e .months) w h)
 
   pub worst-months : Months (e .months) (worstMonths e x)
+  unfolding worstMonths
   worst-months = equal-months (worstMonth e x) (worst-best .within)
 
   -- no list of t months brings a greater difference than the worst
   pub worst-most : (months : List ℕ) → Months (e .months) months
       → charged e x months + capped e (worstMonths e x) ≤ charged e x (worstMonths e x) + capped e months
+  unfolding worstMonths
   worst-most months h =
       let w = worstMonth e x in
       omega (
@@ -80,7 +83,7 @@ module _ (e : Terms) (x : Tariff) where
         capped-monthly (worstMonths e x),
         total-same (monthCharged e x) (e .months) w,
         total-same (monthCapped e) (e .months) w,
-        total-most (monthCharged e x) (monthCapped e) monthMost w worst-best (e .months) months (h .0) (h .1),
+        total-best (monthCharged e x) (monthCapped e) monthMost w worst-best (e .months) months (h .0) (h .1),
       )
 
   pub exceeds-if : (months : List ℕ) → capped e months < charged e x months → pos 0 <ℤ excess e x months

@@ -1,4 +1,4 @@
 pub mod Cap
 pub mod Deciding
 pub mod Decided
-pub mod Judged
+pub mod Corners

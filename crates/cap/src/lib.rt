@@ -1,30 +1,48 @@
 // The cap in one cell: the Relevant Maximum Charge of 28AD.6, the excess of a tariff over it, and whether the tariff exceeds
-// for any list of t months. Promise: `judge` says so exactly, with the worst month and its excess, though it looks at no more
-// than five consumptions; `sides_of` gives QUOTE's two numbers, and `maximum_of` MAXIMUM's. Each kWh is charged by
-// `charge::charge_for` and allowed by `allowed_for`. What the layer above may use: `Exceeds`, `excess`, `worstMonths` of
-// specs/Cap.antt, `exceeds?` of specs/Decided.antt, and the theorems in proofs/Worst.antt.
+// for any list of t months. Promise: `exceeds` says so exactly, though it looks at no more than five consumptions; `worst_case`
+// gives the months of answer 11 and their excess; `sides_of` gives QUOTE's two numbers, and `maximum_of` MAXIMUM's. Each kWh is
+// charged by `charge::charge_for` and allowed by `allowed_for`. What the layer above may use: `Exceeds`, `excess`, `worstMonths` of
+// specs/Cap.antt, `exceeds?` of specs/Decided.antt, `Fits` and `Carries` of specs/Corners.antt, and the theorems in proofs/Worst.antt.
 ghost use mathlib.Core.Path.{_≡_};
 ghost use mathlib.Core.Bool.{true};
+ghost use mathlib.Core.List.{_++_};
 ghost use Prim.Native.Nat.{ℕ, _+_, _-_, _*_, _≤_, _<_};
-ghost use lib.ListN.{length};
+ghost use lib.ListN.{length, getD, drop, replicate};
 ghost use Rattle.laws.specs.Notions.{sum};
-ghost use Rattle.tariff.specs.Tariff.{validTariff};
-ghost use Rattle.charge.specs.Tiers.{Sound};
-ghost use Rattle.cap.specs.Cap.{maximum, charged, capped, Months};
 ghost use Rattle.laws.proofs.Greatest.{better};
-ghost use Rattle.cap.specs.Judged.{Fits, scan, cornerAt, Bounded, Priced, Raised, Cornered, Judges};
+ghost use Rattle.laws.proofs.Pieces.{scan};
+ghost use Rattle.tariff.specs.Tariff.{wholeShare, validTariff};
+ghost use Rattle.charge.specs.Charge.{monthMost};
+ghost use Rattle.charge.specs.Most.{monthsMost, scaledRateMost};
+ghost use Rattle.charge.specs.Tiers.{TiersFit};
+ghost use Rattle.cap.specs.Cap.{maximum, charged, capped, Months, Exceeds};
+ghost use Rattle.cap.specs.Decided.{exceeds?, decided};
+ghost use Rattle.cap.specs.Corners.{levelMost, totalMost, maximumMost, slopeMost, room, monthChargedMost, Fits, cornersOf, Bounded, Priced, Raised, Cornered, Compares, Carries};
 use charge::Kwh;
 use charge::Mills;
 use charge::Tiers;
 use tariff::Tariff;
+use tariff::WHOLE;
 
-// What the cap of a cell is worked out from: N and M, the benchmarks at nil and at m; m; t; and the days.
-pub struct Terms {
+// The most of a month's consumption and of a benchmark; and what the cap allows at most for a month's kWh, times 1,200 × m.
+const MONTH_MOST: u64 = 10_000;
+
+const BENCHMARK_MOST: u64 = 2_400_000_000;
+
+const SCALE: u64 = 12 * WHOLE;
+
+const ROOM: u64 = SCALE * BENCHMARK_MOST * MONTH_MOST;
+
+// The numbers of a cell: N and M, the benchmarks at nil and at m; m; t; the days; the standing charge that counts there; and the
+// peak share of Economy 7.
+pub struct CellNumbers {
     pub lower: u64,
     pub upper: u64,
     pub m: u64,
     pub months: u64,
     pub days: u32,
+    pub standing: u32,
+    pub peak: u32,
 }
 
 // 1,200 × m times the charge, and times the maximum.
@@ -33,7 +51,7 @@ pub struct Sides {
     pub capped: u64,
 }
 
-// The consumptions, beside 0, at which a month's share may be greatest: each step, and 10,000 in every place that is left; and a
+// The consumptions, beside 0, at which a month's share may be greatest: each step, and the end in every place that is left; and a
 // month's charge at each, times 1,200 × m.
 pub struct Corners {
     pub at: [u64; 4],
@@ -46,10 +64,17 @@ pub struct Share {
     pub raised: u64,
 }
 
-// Whether a tariff exceeds in a cell, and then its worst month and the excess of t such months.
-pub enum Judged {
-    Within,
-    Over(u32, u64),
+// The worst month, and both sides of the comparison for t of it, raised by as much.
+pub struct Comparison {
+    pub month: u64,
+    pub charged: u64,
+    pub capped: u64,
+}
+
+// The months of answer 11, in the first t places, and their excess.
+pub struct WorstCase {
+    pub months: [u32; 12],
+    pub excess: u64,
 }
 
 fn wide(x: u32) -> u64
@@ -60,16 +85,16 @@ fn wide(x: u32) -> u64
 
 // The maximum helper: what each kWh adds, and the kWh.
 fn allowed_for(slope: Mills, used: Kwh) -> Mills
-    requires { ⌜ (slope .0 ≤ 2880000000000) × (used .0 ≤ 120000) ⌝ }
+    requires { ⌜ (slope .0 ≤ slopeMost) × (used .0 ≤ totalMost) ⌝ }
     ensures { λ r. ⌜ r .0 ≡ slope .0 * used .0 ⌝ }
 {
     Mills(slope.0 * used.0)
 }
 
 // 12 × m times the Relevant Maximum Charge for a total consumption.
-pub fn maximum_of(e: Terms, total: Kwh) -> Mills
-    requires { ⌜ Fits e × (total .0 ≤ 120000) ⌝ }
-    ensures { λ r. ⌜ (r .0 ≡ maximum e (total .0)) × (r .0 ≤ 4032000000000000) ⌝ }
+pub fn maximum_of(e: CellNumbers, total: Kwh) -> Mills
+    requires { ⌜ Fits e × (total .0 ≤ totalMost) ⌝ }
+    ensures { λ r. ⌜ (r .0 ≡ maximum e (total .0)) × (r .0 ≤ maximumMost) ⌝ }
 {
     let above = allowed_for(Mills(12 * (e.upper - e.lower)), total);
     Mills(e.lower * e.months * e.m + above.0)
@@ -77,8 +102,8 @@ pub fn maximum_of(e: Terms, total: Kwh) -> Mills
 
 // The total of a list of months.
 fn total_of(months: &[u32]) -> u64
-    requires { ⌜ Months (length (now months)) (now months) × (length (now months) ≤ 12) ⌝ }
-    ensures { λ r. ⌜ (r ≡ sum (now (months .entry))) × (r ≤ 120000) ⌝ }
+    requires { ⌜ Months (length (now months)) (now months) × (length (now months) ≤ monthsMost) ⌝ }
+    ensures { λ r. ⌜ (r ≡ sum (now (months .entry))) × (r ≤ totalMost) ⌝ }
 {
     let mut sum: u64 = 0;
     let mut i: usize = 0;
@@ -90,47 +115,47 @@ fn total_of(months: &[u32]) -> u64
 }
 
 // Both sides of the comparison for a lent list of months.
-pub fn sides_of(e: Terms, x: Tariff, months: &[u32]) -> Sides
+pub fn sides_of(e: CellNumbers, x: Tariff, months: &[u32]) -> Sides
     requires { ⌜ Fits e × (validTariff x ≡ true) × Months (e .months) (now months) ⌝ }
     ensures { λ r. ⌜ (r .charged ≡ charged e x (now (months .entry))) × (r .capped ≡ capped e (now (months .entry))) ⌝ }
 {
-    let charge = charge::charge_of(x, e.days, months);
+    let charge = charge::charge_of(e.standing, e.days, e.peak, x, months);
     let maximum = maximum_of(e, Kwh(total_of(months)));
     Sides {
         charged: 12 * e.m * charge.0,
-        capped: 100 * maximum.0,
+        capped: WHOLE * maximum.0,
     }
 }
 
-// The corner after i steps: the step there, or 10,000 where there is none.
-fn corner(t: Tiers, i: usize) -> u64
-    requires { ⌜ Sound t × (i < 4) ⌝ }
-    ensures { λ r. ⌜ (r ≡ cornerAt t i) × (r ≤ 10000) ⌝ }
+// The corner after i steps: the step there, or the end where there is none.
+fn corner(t: Tiers, end: u64, i: usize) -> u64
+    requires { ⌜ TiersFit end t × (i < 4) ⌝ }
+    ensures { λ r. ⌜ (r ≡ getD (cornersOf end t) i 0) × (r ≤ end) ⌝ }
 {
     let steps = t.steps;
-    if i + 1 < t.n { wide(steps[i]) } else { 10_000 }
+    if i + 1 < t.n { wide(steps[i]) } else { end }
 }
 
 // A month's charge at a corner, times 1,200 × m, from the charge at the corner before it.
 fn charged_up_to(before: u64, m: u64, rate: u64, from: u64, to: u64) -> u64
-    requires { ⌜ (before ≤ 48000000000000000) × (m ≤ 20000) × (rate ≤ 20000000) × (from ≤ to) × (to ≤ 10000) ⌝ }
+    requires { ⌜ (before ≤ monthChargedMost) × (m ≤ levelMost) × (rate ≤ scaledRateMost) × (from ≤ to) × (to ≤ monthMost) ⌝ }
     ensures { λ r. ⌜ r ≡ before + 12 * m * (rate * (to - from)) ⌝ }
 {
     let between = charge::charge_for(Mills(rate), Kwh(to - from));
     before + 12 * m * between.0
 }
 
-// The corners of a tariff, for a sheet's m.
-pub fn corners_of(x: Tariff, m: u64) -> Corners
-    requires { ⌜ (validTariff x ≡ true) × (m ≤ 20000) ⌝ }
-    ensures { λ r. ⌜ Cornered x m r ⌝ }
+// The corners of a tariff, for a sheet's m and the peak share of Economy 7.
+pub fn corners_of(x: Tariff, peak: u32, m: u64) -> Corners
+    requires { ⌜ (validTariff x ≡ true) × (peak ≤ wholeShare) × (m ≤ levelMost) ⌝ }
+    ensures { λ r. ⌜ Cornered peak x m r ⌝ }
 {
-    let t = charge::tiers_of(x);
+    let t = charge::tiers_of(x, peak);
     let rates = t.rates;
-    let a = corner(t, 0);
-    let b = corner(t, 1);
-    let c = corner(t, 2);
-    let d = corner(t, 3);
+    let a = corner(t, MONTH_MOST, 0);
+    let b = corner(t, MONTH_MOST, 1);
+    let c = corner(t, MONTH_MOST, 2);
+    let d = corner(t, MONTH_MOST, 3);
     let at_a = charged_up_to(0, m, rates[0], 0, a);
     let at_b = charged_up_to(at_a, m, rates[1], a, b);
     let at_c = charged_up_to(at_b, m, rates[2], b, c);
@@ -143,11 +168,11 @@ pub fn corners_of(x: Tariff, m: u64) -> Corners
 
 // The one of greater share: a month, or a corner with what is charged there. Of equals the month.
 fn worse(best: Share, at: u64, charged: u64, slope: u64) -> Share
-    requires { ⌜ (slope ≤ 2880000000000) × (at ≤ 10000) × (charged ≤ 48000000000000000) ⌝ }
+    requires { ⌜ (slope ≤ slopeMost) × (at ≤ monthMost) × (charged ≤ monthChargedMost) ⌝ }
     ensures { λ r. ⌜ ((u : ℕ → ℕ) → Raised u slope best → charged ≡ u at → Raised u slope r × (r .month ≡ better u (λ kwh. slope * kwh) at (best .month))) ⌝ }
 {
     let allowed = allowed_for(Mills(slope), Kwh(at));
-    let raised = charged + 28_800_000_000_000_000 - allowed.0;
+    let raised = charged + ROOM - allowed.0;
     if best.raised < raised {
         Share { month: at, raised }
     } else {
@@ -157,14 +182,14 @@ fn worse(best: Share, at: u64, charged: u64, slope: u64) -> Share
 
 // The corner of greatest share, or no consumption; the first of equals.
 fn worst_corner(k: Corners, slope: u64) -> Share
-    requires { ⌜ Bounded k × (slope ≤ 2880000000000) ⌝ }
+    requires { ⌜ Bounded k × (slope ≤ slopeMost) ⌝ }
     ensures { λ r. ⌜ ((u : ℕ → ℕ) → u 0 ≡ 0 → Priced k u → Raised u slope r × (r .month ≡ scan u (λ kwh. slope * kwh) 0 (k .at))) ⌝ }
 {
     let at = k.at;
     let charged = k.charged;
     let none = Share {
         month: 0,
-        raised: 28_800_000_000_000_000,
+        raised: ROOM,
     };
     let first = worse(none, at[0], charged[0], slope);
     let second = worse(first, at[1], charged[1], slope);
@@ -173,33 +198,68 @@ fn worst_corner(k: Corners, slope: u64) -> Share
 }
 
 // 1,200 × m times the charge of t months alike, from a month's charge times 1,200 × m.
-fn charged_by(e: Terms, standing: u32, month: u64) -> u64
-    requires { ⌜ Fits e × (standing ≤ 1000000) × (month ≤ 76800000000000000) ⌝ }
-    ensures { λ r. ⌜ r ≡ 12 * e .m * (100 * (standing * e .days)) + e .months * month ⌝ }
+fn charged_by(e: CellNumbers, month: u64) -> u64
+    requires { ⌜ Fits e × (month ≤ monthChargedMost + room) ⌝ }
+    ensures { λ r. ⌜ r ≡ 12 * e .m * (wholeShare * (e .standing * e .days)) + e .months * month ⌝ }
 {
-    12 * e.m * (100 * (wide(standing) * wide(e.days))) + e.months * month
+    12 * e.m * (WHOLE * (wide(e.standing) * wide(e.days))) + e.months * month
 }
 
 // 1,200 × m times the maximum of t months alike, from what the cap allows for a month's kWh.
-fn capped_by(e: Terms, month: u64) -> u64
-    requires { ⌜ Fits e × (month ≤ 28800000000000000) ⌝ }
-    ensures { λ r. ⌜ r ≡ 100 * (e .lower * e .months * e .m) + e .months * month ⌝ }
+fn capped_by(e: CellNumbers, month: u64) -> u64
+    requires { ⌜ Fits e × (month ≤ room) ⌝ }
+    ensures { λ r. ⌜ r ≡ wholeShare * (e .lower * e .months * e .m) + e .months * month ⌝ }
 {
-    100 * (e.lower * e.months * e.m) + e.months * month
+    WHOLE * (e.lower * e.months * e.m) + e.months * month
+}
+
+// The comparison at the worst months.
+fn compared(x: Tariff, k: Corners, e: CellNumbers) -> Comparison
+    requires { ⌜ (validTariff x ≡ true) × Cornered (e .peak) x (e .m) k × Fits e ⌝ }
+    ensures { λ r. ⌜ Compares e x r ⌝ }
+{
+    let slope = SCALE * (e.upper - e.lower);
+    let worst = worst_corner(k, slope);
+    let charged = charged_by(e, worst.raised);
+    let capped = capped_by(e, ROOM);
+    Comparison {
+        month: worst.month,
+        charged,
+        capped,
+    }
 }
 
 // Whether a tariff exceeds in a cell for any list of t months.
-pub fn judge(x: Tariff, k: Corners, e: Terms) -> Judged
-    requires { ⌜ (validTariff x ≡ true) × Cornered x (e .m) k × Fits e ⌝ }
-    ensures { λ r. ⌜ Judges e x r ⌝ }
+pub fn exceeds(x: Tariff, k: Corners, e: CellNumbers) -> bool
+    requires { ⌜ (validTariff x ≡ true) × Cornered (e .peak) x (e .m) k × Fits e ⌝ }
+    ensures { λ r. ⌜ r ≡ decided (exceeds? e x) ⌝ }
 {
-    let slope = 1200 * (e.upper - e.lower);
-    let worst = worst_corner(k, slope);
-    let charged = charged_by(e, x.standing, worst.raised);
-    let capped = capped_by(e, 28_800_000_000_000_000);
-    if capped < charged {
-        Judged::Over(worst.month as u32, charged - capped)
-    } else {
-        Judged::Within
+    let worst = compared(x, k, e);
+    worst.capped < worst.charged
+}
+
+// t months alike, and no others.
+fn equal_months(month: u32, t: usize) -> [u32; 12]
+    requires { ⌜ t ≤ monthsMost ⌝ }
+    ensures { λ r. ⌜ r ≡ replicate t month ++ drop t (replicate monthsMost 0) ⌝ }
+{
+    let mut months = [0u32; 12];
+    let mut i: usize = 0;
+    while i < t {
+        months[i] = month;
+        i += 1;
+    }
+    months
+}
+
+// The months of answer 11 and their excess, where a tariff exceeds in a cell.
+pub fn worst_case(x: Tariff, e: CellNumbers) -> WorstCase
+    requires { ⌜ (validTariff x ≡ true) × Fits e × Exceeds e x ⌝ }
+    ensures { λ r. ⌜ Carries e x r ⌝ }
+{
+    let worst = compared(x, corners_of(x, e.peak, e.m), e);
+    WorstCase {
+        months: equal_months(worst.month as u32, e.months as usize),
+        excess: worst.charged - worst.capped,
     }
 }

@@ -11,6 +11,7 @@ use lib.Dec.{eqb}
 use lib.ListN.{getD}
 use Rattle.laws.specs.Notions.{sum, total}
 use Rattle.tariff.specs.declared.Tariff.{Tariff}
+use Rattle.tariff.specs.Tariff.{wholeShare}
 use Rattle.charge.specs.Charge.{ratesInUse, shares, weighted, registers, charge}
 
 -- a month's registers come to the weighted rate for its kWh
@@ -26,11 +27,11 @@ unfolding total sum
 registers-weighted rs ps [] = omega arith
 registers-weighted rs ps (kwh ∷ months) = omega (arith, registers-month rs ps kwh, registers-weighted rs ps months)
 
--- the charge of a tariff that is not of kind 1, times 100: the standing charge, and each register's share of the months' kWh at its rate
-pub charge-registers : (x : Tariff) (days : ℕ) (months : List ℕ) → eqb (x .kind) 1 ≡ false
-    → charge x days months ≡ 100 * (x .standing * days) + total (registers (ratesInUse x) (shares x)) months
+-- the charge of a tariff that is not of kind 1, times the whole: the standing charge, and each register's share of the months' kWh at its rate
+pub charge-registers : (standing days peak : ℕ) (x : Tariff) (months : List ℕ) → eqb (x .kind) 1 ≡ false
+    → charge standing days peak x months ≡ wholeShare * (standing * days) + total (registers (ratesInUse x) (shares peak x)) months
 unfolding charge
-charge-registers x days months e = rw (e, registers-weighted (ratesInUse x) (shares x) months)
+charge-registers standing days peak x months e = rw (e, registers-weighted (ratesInUse x) (shares peak x) months)
 
 -- a weighted rate is at most the greatest rate times the sum of the shares
 pub weighted-most : (R : ℕ) (rs ps : List ℕ) → ((i : ℕ) → getD rs i 0 ≤ R) → weighted rs ps ≤ R * sum ps

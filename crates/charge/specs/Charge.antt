@@ -7,16 +7,21 @@ use lib.Dec.{eqb}
 use lib.ListN.{take}
 use Rattle.laws.specs.Notions.{sum, total}
 use Rattle.tariff.specs.declared.Tariff.{Tariff}
+use Rattle.tariff.specs.Tariff.{wholeShare}
 
--- the rates in use; the steps between them; the shares in percent, 58:42 for Economy 7 (28AD.31)
+-- "A month's consumption is 0 to 10,000."
+abbrev pub monthMost : ℕ
+monthMost = 10000
+
+-- the rates in use; the steps between them; the shares, for Economy 7 the peak share and what is left of the whole (28AD.31)
 abbrev pub ratesInUse : Tariff → List ℕ
 ratesInUse x = take (x .n) (x .rates)
 
 abbrev pub tierSteps : Tariff → List ℕ
 tierSteps x = take (x .n - 1) (x .steps)
 
-abbrev pub shares : Tariff → List ℕ
-shares x = cond (eqb (x .kind) 2) (58 ∷ 42 ∷ []) (take (x .n) (x .steps))
+abbrev pub shares : ℕ → Tariff → List ℕ
+shares peak x = cond (eqb (x .kind) 2) (peak ∷ (wholeShare - peak) ∷ []) (take (x .n) (x .steps))
 
 -- "Kind 1 is held to arrangement 0, kinds 2 and 3 to arrangement 1 (28AD.3, 28AD.4)."
 unfoldable pub arrangement : Tariff → ℕ
@@ -28,26 +33,28 @@ tierCharge from [] steps kwh = 0
 tierCharge from (r ∷ rs) [] kwh = r * (kwh - from)
 tierCharge from (r ∷ rs) (s ∷ ss) kwh = r * (min kwh s - from) + tierCharge s rs ss kwh
 
--- the percentage-weighted rate, times 100
+-- the percentage-weighted rate, times the whole of the shares
 unfoldable pub weighted : List ℕ → List ℕ → ℕ
 weighted [] shares = 0
 weighted (r ∷ rs) [] = 0
 weighted (r ∷ rs) (p ∷ ps) = r * p + weighted rs ps
 
--- what the weighted rate stands for (proofs/Weighted.antt, `charge-registers`): each register's share of the kWh, in percent, at its rate
+-- what the weighted rate stands for (proofs/Weighted.antt, `charge-registers`): each register's share of the kWh at its rate
 unfoldable pub registers : List ℕ → List ℕ → ℕ → ℕ
 registers [] shares kwh = 0
 registers (r ∷ rs) [] kwh = 0
 registers (r ∷ rs) (p ∷ ps) kwh = r * (p * kwh) + registers rs ps kwh
 
--- A charge with percentages in it is a fraction of a mill, so charges are kept times 100.
--- a month's charge for its kWh, times 100
-unfoldable pub monthCharge : Tariff → ℕ → ℕ
-monthCharge x kwh =
-    cond (eqb (x .kind) 1) (100 * tierCharge 0 (ratesInUse x) (tierSteps x) kwh) (weighted (ratesInUse x) (shares x) * kwh)
+-- A charge with shares in it is a fraction of a mill, so charges are kept times the whole of the shares.
+-- a month's charge for its kWh, so scaled
+unfoldable pub monthCharge : ℕ → Tariff → ℕ → ℕ
+monthCharge peak x kwh =
+    cond (eqb (x .kind) 1) (wholeShare * tierCharge 0 (ratesInUse x) (tierSteps x) kwh) (weighted (ratesInUse x) (shares peak x) * kwh)
 
--- "The charge is standing × days plus the months' tier charges, or plus total × the percentage-weighted rate", times 100
-unfoldable pub charge : Tariff → ℕ → List ℕ → ℕ
-charge x days months =
-    100 * (x .standing * days)
-    + cond (eqb (x .kind) 1) (100 * total (tierCharge 0 (ratesInUse x) (tierSteps x)) months) (weighted (ratesInUse x) (shares x) * sum months)
+-- "The charge is standing × days plus the months' tier charges, or plus total × the percentage-weighted rate", so scaled
+unfoldable pub charge : ℕ → ℕ → ℕ → Tariff → List ℕ → ℕ
+charge standing days peak x months =
+    wholeShare * (standing * days)
+    + cond (eqb (x .kind) 1)
+    (wholeShare * total (tierCharge 0 (ratesInUse x) (tierSteps x)) months)
+    (weighted (ratesInUse x) (shares peak x) * sum months)

@@ -1,2 +1,3 @@
 pub mod Charge
+pub mod Most
 pub mod Tiers

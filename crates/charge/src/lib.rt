@@ -1,23 +1,26 @@
 // What a tariff charges: tiers month by month, weighted rates on the total, and the standing charge by the day.
-// Promise: `charge_of` gives a hundred times the charge of a lent list of months. A hundred times, since a weighted rate in percent
-// is a fraction of a mill. What the layer above may use: `monthCharge`, `charge` and `arrangement` of specs/Charge.antt, the charge
-// helper `charge_for`, `tiers_of` with specs/Tiers.antt, and the laws in proofs/.
+// Promise: `charge_of` gives the charge of a lent list of months, times the whole of the shares, since a weighted rate is a fraction
+// of a mill. What the layer above may use: `monthCharge`, `charge` and `arrangement` of specs/Charge.antt, the charge helper
+// `charge_for`, `tiers_of` with specs/Tiers.antt and Most.antt, and the laws in proofs/.
 ghost use mathlib.Core.Path.{_≡_};
 ghost use mathlib.Core.Bool.{true};
 ghost use Prim.Native.Nat.{ℕ, _+_, _-_, _*_, _≤_, _<_, min};
 ghost use lib.ListN.{length, getD, take};
 ghost use Rattle.laws.specs.Notions.{sum};
-ghost use Rattle.tariff.specs.Tariff.{ratesWithin, validTariff};
-ghost use Rattle.charge.specs.Charge.{weighted, tierCharge, charge};
-ghost use Rattle.charge.specs.Tiers.{Sound, Tiered};
+ghost use Rattle.tariff.specs.Tariff.{wholeShare, standingMost, ratesWithin, validTariff};
+ghost use Rattle.charge.specs.Charge.{monthMost, weighted, charge};
+ghost use Rattle.charge.specs.Most.{monthsMost, daysMost, scaledRateMost, monthChargeMost, chargeMost};
+ghost use Rattle.charge.specs.Tiers.{tiersOf, byTiers, TiersFit};
 use tariff::Tariff;
+use tariff::WHOLE;
+use tariff::WHOLE_SHARE;
 
 // A charge is counted in mills and a consumption in kWh.
 pub struct Mills(pub u64);
 
 pub struct Kwh(pub u64);
 
-// What a tariff of any kind charges for a month's kWh: n rates in hundredths of a mill, all but the last up to a step.
+// What a tariff of any kind charges for a month's kWh: n rates times the whole of the shares, all but the last up to a step.
 pub struct Tiers {
     pub n: usize,
     pub rates: [u64; 4],
@@ -32,16 +35,16 @@ fn wide(x: u32) -> u64
 
 // The charge helper: a rate for each kWh, and the kWh.
 pub fn charge_for(rate: Mills, used: Kwh) -> Mills
-    requires { ⌜ (rate .0 ≤ 20000000) × (used .0 ≤ 10000) ⌝ }
+    requires { ⌜ (rate .0 ≤ scaledRateMost) × (used .0 ≤ monthMost) ⌝ }
     ensures { λ r. ⌜ r .0 ≡ rate .0 * used .0 ⌝ }
 {
     Mills(rate.0 * used.0)
 }
 
-// A hundred times the weighted rate: each rate times its share in percent, added up.
+// The weighted rate, times the whole of the shares: each rate times its share, added up.
 fn weighted_rate(rates: [u32; 4], shares: [u32; 4], n: usize) -> u64
-    requires { ⌜ (n ≤ 4) × (ratesWithin rates ≡ true) × (sum (take n shares) ≡ 100) ⌝ }
-    ensures { λ r. ⌜ (r ≡ weighted (take n rates) (take n shares)) × (r ≤ 20000000) ⌝ }
+    requires { ⌜ (n ≤ 4) × (ratesWithin rates ≡ true) × (sum (take n shares) ≡ wholeShare) ⌝ }
+    ensures { λ r. ⌜ (r ≡ weighted (take n rates) (take n shares)) × (r ≤ scaledRateMost) ⌝ }
 {
     let mut i: usize = 0;
     let mut w: u64 = 0;
@@ -55,9 +58,9 @@ fn weighted_rate(rates: [u32; 4], shares: [u32; 4], n: usize) -> u64
 }
 
 // The tiers of a single-register tariff, or the one tier of a weighted rate.
-pub fn tiers_of(x: Tariff) -> Tiers
-    requires { ⌜ validTariff x ≡ true ⌝ }
-    ensures { λ r. ⌜ Tiered x r ⌝ }
+pub fn tiers_of(x: Tariff, peak: u32) -> Tiers
+    requires { ⌜ (validTariff x ≡ true) × (peak ≤ wholeShare) ⌝ }
+    ensures { λ r. ⌜ (r ≡ tiersOf peak x) × TiersFit monthMost r ⌝ }
 {
     let rates = x.rates;
     let steps = x.steps;
@@ -67,16 +70,21 @@ pub fn tiers_of(x: Tariff) -> Tiers
         1 => Tiers {
             n,
             rates: [
-                100 * wide(rates[0]),
-                100 * wide(rates[1]),
-                100 * wide(rates[2]),
-                100 * wide(rates[3]),
+                WHOLE * wide(rates[0]),
+                WHOLE * wide(rates[1]),
+                WHOLE * wide(rates[2]),
+                WHOLE * wide(rates[3]),
             ],
             steps,
         },
         2 => Tiers {
             n: 1,
-            rates: [weighted_rate(rates, [58, 42, 0, 0], 2), 0, 0, 0],
+            rates: [
+                weighted_rate(rates, [peak, WHOLE_SHARE - peak, 0, 0], 2),
+                0,
+                0,
+                0,
+            ],
             steps: [0; 4],
         },
         _ => Tiers {
@@ -96,7 +104,7 @@ fn least(x: u64, y: u64) -> u64
 
 // The charge at one rate for what lies above `from`, up to `top`.
 fn part(rate: u64, top: u64, from: u64) -> Mills
-    requires { ⌜ (rate ≤ 20000000) × (top ≤ 10000) ⌝ }
+    requires { ⌜ (rate ≤ scaledRateMost) × (top ≤ monthMost) ⌝ }
     ensures { λ r. ⌜ r .0 ≡ rate * (top - from) ⌝ }
 {
     if from < top {
@@ -106,10 +114,10 @@ fn part(rate: u64, top: u64, from: u64) -> Mills
     }
 }
 
-// A hundred times the charge for a month's kWh.
+// The charge for a month's kWh, times the whole of the shares.
 pub fn tier_charge(t: Tiers, used: Kwh) -> Mills
-    requires { ⌜ Sound t × (used .0 ≤ 10000) ⌝ }
-    ensures { λ r. ⌜ (r .0 ≡ tierCharge 0 (take (t .n) (t .rates)) (take (t .n - 1) (t .steps)) (used .0)) × (r .0 ≤ 200000000000) ⌝ }
+    requires { ⌜ TiersFit monthMost t × (used .0 ≤ monthMost) ⌝ }
+    ensures { λ r. ⌜ (r .0 ≡ byTiers t (used .0)) × (r .0 ≤ monthChargeMost) ⌝ }
 {
     let rates = t.rates;
     let steps = t.steps;
@@ -135,14 +143,15 @@ fn kwh_at(months: &[u32], i: usize) -> Kwh
     Kwh(wide(months[i]))
 }
 
-// A hundred times the charge of a tariff for a list of months and the days of the period.
-pub fn charge_of(x: Tariff, days: u32, months: &[u32]) -> Mills
-    requires { ⌜ (validTariff x ≡ true) × (days ≤ 372) × (length (now months) ≤ 12) × ((i : ℕ) → getD (now months) i 0 ≤ 10000) ⌝ }
-    ensures { λ r. ⌜ (r .0 ≡ charge x days (now (months .entry))) × (r .0 ≤ 2437200000000) ⌝ }
+// The charge of a tariff for a list of months, times the whole of the shares: with a standing charge for each day of the period,
+// and the peak share of Economy 7.
+pub fn charge_of(standing: u32, days: u32, peak: u32, x: Tariff, months: &[u32]) -> Mills
+    requires { ⌜ (validTariff x ≡ true) × (standing ≤ standingMost) × (days ≤ daysMost) × (peak ≤ wholeShare) × (length (now months) ≤ monthsMost) × ((i : ℕ) → getD (now months) i 0 ≤ monthMost) ⌝ }
+    ensures { λ r. ⌜ (r .0 ≡ charge standing days peak x (now (months .entry))) × (r .0 ≤ chargeMost) ⌝ }
 {
-    let tiers = tiers_of(x);
+    let tiers = tiers_of(x, peak);
     let count = months.len();
-    let mut sum: u64 = 100 * (wide(x.standing) * (days as u64));
+    let mut sum: u64 = WHOLE * (wide(standing) * (days as u64));
     let mut i: usize = 0;
     while i < count {
         sum += tier_charge(tiers, kwh_at(months, i)).0;

@@ -2,27 +2,23 @@
 -- Assumes nothing.
 use mathlib.Core.Path.{_≡_, refl, sym, _∙_, ap, ap₂, subst}
 use mathlib.Core.Bool.{Bool, true, false, not, cond}
-use mathlib.Core.List.{List, _++_}
-use Prim.Native.Nat.{ℕ, zero, suc, _+_, _<_, _≤_}
-use native.Mathlib.Omega.{arith}
-use lib.IntN.{pos}
-use lib.ListN.{getD, take, drop, replicate, length-replicate}
-use lib.Seq.{take-at, getD-drop}
+use Prim.Native.Nat.{ℕ, suc, _<_}
+use lib.ListN.{getD}
 use Rattle.laws.proofs.Never.{never}
 use Rattle.refusal.specs.declared.Check.{Check}
 use Rattle.refusal.specs.declared.Check.the-variants.{Pass, Refuse}
 use Rattle.refusal.specs.Checks.{unless, first, checked, need, given}
-use Rattle.refusal.proofs.Laws.{passes, first-passes}
+use Rattle.refusal.proofs.Checks.{unless-passes, first-passes}
 use Rattle.benchmark.specs.declared.Benchmarks.{Benchmarks}
 use Rattle.tariff.specs.declared.Tariff.{Tariff}
 use Rattle.tariff.specs.Tariff.{tariffOf, validTariff, recordCheck}
-use Rattle.verdict.specs.Cells.{cell, verdict}
+use Rattle.verdict.specs.Cells.{verdict}
 use Rattle.book.specs.declared.State.{State}
 use Rattle.book.specs.declared.State.the-variants.{Empty, Draft, Open}
 use Rattle.book.specs.declared.Place.{Place}
 use Rattle.book.specs.declared.Settled.{Settled}
 use Rattle.book.specs.declared.Book.{Book}
-use Rattle.book.specs.Calls.{Sheet, Record, PUT, call, Answer, accepted, refused, over, isAccepted}
+use Rattle.book.specs.Calls.{Sheet, Record, PUT, call, Answer, accepted, refused, isAccepted}
 use Rattle.book.specs.Checks.{isOpen, figuresOf, inside, verdictAnswer, answer, putAnswer, openAnswer, closeAnswer, dropAnswer}
 use Rattle.book.specs.Book.{placeWith, tariffIn, beyond, placeOf, heldIn, held, sheetIf, sheetIn, inForce, bookReadings, withPlace, changed}
 use Rattle.book.specs.Promises.{answerOf, NoughtPast, Does}
@@ -137,21 +133,4 @@ open-passed k p loaded h e =
     let past-6 = first-passes (codeCheck k) _ e .1 in
     let past-9 = first-passes (emptyCheck (p .state)) _ past-6 in
     let past-7 = first-passes (openCheck (p .state)) _ (past-9 .1) in
-    (draft (p .state) (tariffIn p) (past-9 .0) (past-7 .0) h, passes loaded 10 Pass (past-7 .1) .0)
-
--- t months alike and zeros after them
-past-months : (t month : ℕ) (rest : List ℕ) → ((j : ℕ) → getD rest j 0 ≡ 0) → (i : ℕ) → t ≤ i → getD (replicate t month ++ rest) i 0 ≡ 0
-past-months zero month rest z i h = z i
-past-months (suc t) month rest z zero h = absurd (omega arith)
-past-months (suc t) month rest z (suc i) h = past-months t month rest z i (omega arith)
-
-module _ (region method t month excess : ℕ) (ms : List ℕ) (e : ms ≡ replicate t month ++ drop t (replicate 12 0)) where
-  pub over-answer : over (cell region method) (take t ms) (pos excess) ≡ over (cell region method) (replicate t month) (pos excess)
-  over-answer =
-      ap (λ l. over (cell region method) l (pos excess))
-      (ap (take t) e ∙ take-at (replicate t month) (drop t (replicate 12 0)) t (length-replicate t month))
-
-  pub rest-zero : (i : ℕ) → t ≤ i → getD ms i 0 ≡ 0
-  rest-zero i h =
-      ap (λ l. getD l i 0) e
-      ∙ past-months t month (drop t (replicate 12 0)) (λ j. getD-drop t (replicate 12 0) j 0 ∙ noughts 12 (t + j)) i h
+    (draft (p .state) (tariffIn p) (past-9 .0) (past-7 .0) h, unless-passes loaded 10 Pass (past-7 .1) .0)

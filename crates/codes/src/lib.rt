@@ -4,9 +4,6 @@
 // place. OPEN requires document 01's own sentence on the book, `Reachable`; the others require nothing.
 ghost use mathlib.Core.Path.{_≡_};
 ghost use mathlib.Core.Bool.{true};
-ghost use mathlib.Core.List.{_++_};
-ghost use Prim.Native.Nat.{_≤_};
-ghost use lib.ListN.{drop, replicate};
 ghost use Rattle.benchmark.specs.Lawful.{Lawful};
 ghost use Rattle.tariff.specs.Tariff.{tariffOf};
 ghost use Rattle.book.specs.Calls.{PUT, call, accepted};
@@ -32,20 +29,6 @@ pub enum CodeAct {
     Drop,
 }
 
-// t months alike, and no others.
-fn equal_months(month: u32, t: usize) -> [u32; 12]
-    requires { ⌜ t ≤ 12 ⌝ }
-    ensures { λ r. ⌜ r ≡ replicate t month ++ drop t (replicate 12 0) ⌝ }
-{
-    let mut months = [0u32; 12];
-    let mut i: usize = 0;
-    while i < t {
-        months[i] = month;
-        i += 1;
-    }
-    months
-}
-
 // OPEN (code). 6, 9, 7, 10, 11. Else open; the answer carries the number of cells.
 fn open_at(code: u32, p: Place, loaded: bool, figures: Benchmarks) -> Settled
     requires { ⌜ (loaded ≡ true → Lawful figures) × Holds p ⌝ }
@@ -58,18 +41,19 @@ fn open_at(code: u32, p: Place, loaded: bool, figures: Benchmarks) -> Settled
         return book::settled_by(checked, p, p);
     };
     let opened = book::in_state(p, State::Open);
-    let outcome = verdict::verdict_of(figures, book::tariff_in(p));
+    let ruling = verdict::verdict_of(figures, book::tariff_in(p));
+    let outcome = ruling.outcome;
     match outcome {
         Outcome::Opens(cells) => Settled {
             reply: Reply::Opened(cells),
             months: [0; 12],
             place: opened,
         },
-        Outcome::Over(region, method, month, excess) => {
-            let t = figures.months;
+        Outcome::Over(region, method, excess) => {
+            let months = ruling.months;
             Settled {
-                reply: Reply::Over(region, method, t, excess),
-                months: equal_months(month, t as usize),
+                reply: Reply::Over(region, method, figures.months, excess),
+                months,
                 place: p,
             }
         }

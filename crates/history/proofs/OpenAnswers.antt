@@ -1,6 +1,6 @@
 -- What OPEN answers, by what is read from the accepted calls: of a draft under a sheet in force, the verdict on it.
 -- Assumes nothing.
-use mathlib.Core.Path.{_≡_, refl, sym, _∙_, ap, subst, subst₂}
+use mathlib.Core.Path.{_≡_, refl, sym, _∙_, ap, subst₂}
 use mathlib.Core.Bool.{Bool, true, false}
 use mathlib.Core.Logic.{_↔_}
 use mathlib.Core.List.{List}
@@ -9,19 +9,17 @@ use Prim.Native.Nat.{ℕ, _<_}
 use native.Mathlib.Decide.{decLt}
 use native.Mathlib.Omega.{arith}
 use lib.IntN.{pos}
-use lib.ListN.{length, getD, length-replicate, getD-replicate}
 use lib.Signed.{_≤ℤ_}
-use Rattle.laws.specs.Greatest.{Greatest}
 use Rattle.laws.proofs.Differences.{difference-at-most}
 use Rattle.laws.proofs.Never.{never}
 use Rattle.tariff.specs.declared.Tariff.{Tariff}
 use Rattle.tariff.specs.Tariff.{validTariff}
 use Rattle.tariff.proofs.Validity.{valid-regions, valid-methods}
-use Rattle.cap.specs.declared.Terms.{Terms}
-use Rattle.cap.specs.Cap.{charged, capped, excess, monthMost, Months, Exceeds, share, worstMonth, worstMonths}
-use Rattle.cap.specs.Deciding.{worst-is, worst-months, exceeds-if}
-use Rattle.cap.proofs.Worst.{excess-most, exceeds-at-worst}
-use Rattle.verdict.specs.Cells.{Cell, Offered, terms, cellCount, verdictAt, verdict, firstOver}
+use Rattle.cap.specs.declared.CellNumbers.{CellNumbers}
+use Rattle.cap.specs.Cap.{charged, capped, excess, Months, Exceeds, worstMonths}
+use Rattle.cap.specs.Deciding.{worst-months, exceeds-if}
+use Rattle.cap.proofs.Worst.{excess-most, exceeds-at-worst, each-worst}
+use Rattle.verdict.specs.Cells.{Cell, Offered, cellNumbers, cellCount, verdictAt, verdict, firstOver}
 use Rattle.verdict.proofs.Meaning.{none-exceeds, first-exceeds}
 use Rattle.verdict.proofs.Count.{cells-counted}
 use Rattle.book.specs.Calls.{Sheet, Act, OPEN, opened, refused, isNone}
@@ -29,15 +27,8 @@ use Rattle.book.specs.Checks.{figuresOf, complies, inside, verdictAnswer, answe
 use Rattle.history.specs.History.{sheetOf, tariffAt, openOf, readings}
 use Rattle.history.specs.Claim.{numbersIn, excessIn, MonthsOf, ExceedsSomewhere, Shows, DraftWhere, cellsOffered, OpenAnswer}
 
--- each of the worst months is the smallest of greatest share
-each-worst : (e : Terms) (x : Tariff) (i : ℕ) → i < length (worstMonths e x)
-    → Greatest (share e x) monthMost (getD (worstMonths e x) i 0)
-each-worst e x i h =
-    let l : i < e .months = omega (arith, length-replicate (e .months) (worstMonth e x)) in
-    subst (Greatest (share e x) monthMost) (sym (getD-replicate (e .months) i (worstMonth e x) 0 l)) (worst-is e x)
-
 -- where a tariff does not exceed, no months are above the maximum
-at-most : (e : Terms) (x : Tariff) → (Exceeds e x → ⊥) → (months : List ℕ) → Months (e .months) months → excess e x months ≤ℤ pos 0
+at-most : (e : CellNumbers) (x : Tariff) → (Exceeds e x → ⊥) → (months : List ℕ) → Months (e .months) months → excess e x months ≤ℤ pos 0
 unfolding excess
 at-most e x n months h = go (decLt (capped e months) (charged e x months))
   where
@@ -48,13 +39,13 @@ at-most e x n months h = go (decLt (capped e months) (charged e x months))
 module _ (s : Sheet) (x : Tariff) where
   pub nowhere-above : firstOver (figuresOf s) x ≡ none
       → (c : Cell) → Offered x c → (months : List ℕ) → MonthsOf s months → excessIn s x c months ≤ℤ pos 0
-  unfolding terms
+  unfolding cellNumbers
   nowhere-above e c o months h = at-most (numbersIn s x c) x (none-exceeds (figuresOf s) x e c o) months h
 
   -- what answer 11 shows
   shown : (c : Cell) → firstOver (figuresOf s) x ≡ some c
       → Shows s x c (worstMonths (numbersIn s x c) x) (excessIn s x c (worstMonths (numbersIn s x c) x))
-  unfolding terms
+  unfolding cellNumbers
   shown c e =
       let f = first-exceeds (figuresOf s) x c e in
       let t = numbersIn s x c in

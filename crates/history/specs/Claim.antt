@@ -12,9 +12,10 @@ use lib.Signed.{_<ℤ_, _≤ℤ_}
 use Rattle.laws.specs.Notions.{count}
 use Rattle.laws.specs.Greatest.{Greatest}
 use Rattle.tariff.specs.declared.Tariff.{Tariff}
-use Rattle.cap.specs.declared.Terms.{Terms}
-use Rattle.cap.specs.Cap.{excess, monthMost, Months, share}
-use Rattle.verdict.specs.Cells.{Cell, offered, Offered, terms, ExceedsIn, Before, cellAt}
+use Rattle.charge.specs.Charge.{monthMost}
+use Rattle.cap.specs.declared.CellNumbers.{CellNumbers}
+use Rattle.cap.specs.Cap.{excess, Months, share}
+use Rattle.verdict.specs.Cells.{Cell, offered, Offered, tariffNumbers, ExceedsIn, Before, cellAt}
 use Rattle.book.specs.declared.Book.{Book}
 use Rattle.book.specs.declared.Done.{Done}
 use Rattle.book.specs.Calls.{Sheet, Act, OPEN, Call, Answer, opened, over, refusalNumber}
@@ -28,8 +29,8 @@ abbrev pub OpenIn : Book → ℕ → Tariff → Type 0
 OpenIn b k x = held (placeOf (b .places) k) ≡ some (holding x true)
 
 -- the numbers of a tariff's cell, with a sheet's figures, and the excess of months there
-abbrev pub numbersIn : Sheet → Tariff → Cell → Terms
-numbersIn s x c = terms (figuresOf s) x c
+abbrev pub numbersIn : Sheet → Tariff → Cell → CellNumbers
+numbersIn s x c = tariffNumbers (figuresOf s) x c
 
 abbrev pub excessIn : Sheet → Tariff → Cell → List ℕ → ℤ
 excessIn s x c months = excess (numbersIn s x c) x months

@@ -120,13 +120,13 @@ module _ (u v : ℕ → ℕ) where
   first-greatest n = best-greatest u v (first-best n)
 
   -- no list of t numbers of 0 to n has a greater difference than t times the best
-  pub total-most : (n w : ℕ) → Best u v n w → (t : ℕ) (xs : List ℕ) → length xs ≡ t → ((i : ℕ) → getD xs i 0 ≤ n)
+  pub total-best : (n w : ℕ) → Best u v n w → (t : ℕ) (xs : List ℕ) → length xs ≡ t → ((i : ℕ) → getD xs i 0 ≤ n)
       → total u xs + t * v w ≤ t * u w + total v xs
   unfolding total
-  total-most n w h zero [] e a = simp zero-mul (omega arith)
-  total-most n w h zero (x ∷ xs) e a = absurd (omega arith)
-  total-most n w h (suc t) [] e a = absurd (omega arith)
-  total-most n w h (suc t) (x ∷ xs) e a = omega (arith, total-most n w h t xs (suc-inj e) (λ i. a (suc i)), h .most x (a 0))
+  total-best n w h zero [] e a = simp zero-mul (omega arith)
+  total-best n w h zero (x ∷ xs) e a = absurd (omega arith)
+  total-best n w h (suc t) [] e a = absurd (omega arith)
+  total-best n w h (suc t) (x ∷ xs) e a = omega (arith, total-best n w h t xs (suc-inj e) (λ i. a (suc i)), h .most x (a 0))
 
 -- u goes up by a for each unit from p to q
 abbrev pub Straight : (ℕ → ℕ) → ℕ → ℕ → ℕ → Type 0

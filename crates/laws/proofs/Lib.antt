@@ -8,3 +8,4 @@ pub mod Sums
 pub mod Differences
 pub mod Greatest
 pub mod Never
+pub mod Pieces

@@ -6,7 +6,7 @@ use Prim.Native.Nat.{ℕ, zero, suc, _+_, _-_, _<_, _≤_}
 use native.Mathlib.Nat.{add-zero, add-suc, suc-add, zero-add, le-of-suc-le-suc}
 use native.Mathlib.Numerals.{add-one}
 use native.Mathlib.Omega.{arith}
-use lib.ListN.{length, getD, take, drop, length-take, drop-of-length-le}
+use lib.ListN.{length, getD, take, drop, replicate, length-take, drop-of-length-le}
 use lib.Seq.{drop-cons, ext-getD, getD-take, length-take-le}
 use Rattle.laws.specs.Notions.{tabulate, tabulateFrom}
 
@@ -18,6 +18,12 @@ drop-take xs n i h k =
 
 pub drop-end : (xs : List ℕ) (n i : ℕ) → n ≤ i → drop i (take n xs) ≡ []
 drop-end xs n i h = drop-of-length-le (take n xs) {i = i} (omega (arith, length-take n xs))
+
+-- a list of noughts
+pub noughts : (n i : ℕ) → _≡_ {A = ℕ} (getD (replicate n 0) i 0) 0
+noughts zero i = refl
+noughts (suc n) zero = refl
+noughts (suc n) (suc i) = noughts n i
 
 -- a table by its index
 length-from : (n i : ℕ) (f : ℕ → ℕ) → length (tabulateFrom i n f) ≡ n

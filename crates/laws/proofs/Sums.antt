@@ -2,8 +2,8 @@
 -- Assumes nothing.
 use mathlib.Core.Path.{_≡_}
 use mathlib.Core.List.{List, [], _∷_}
-use Prim.Native.Nat.{ℕ, zero, suc, _*_, _<_, _≤_, _^_}
-use native.Mathlib.Nat.{zero-mul, mul-le-mul, le-pred-of-lt}
+use Prim.Native.Nat.{ℕ, zero, suc, _*_, _≤_}
+use native.Mathlib.Nat.{zero-mul}
 use native.Mathlib.Omega.{arith}
 use lib.ListN.{length, getD, replicate}
 use Rattle.laws.specs.Notions.{sum, total}
@@ -13,11 +13,6 @@ pub total-same : (f : ℕ → ℕ) (t w : ℕ) → total f (replicate t w) ≡ t
 unfolding total
 total-same f zero w = simp zero-mul
 total-same f (suc t) w = omega (arith, total-same f t w)
-
-pub sum-same : (t w : ℕ) → sum (replicate t w) ≡ t * w
-unfolding sum
-sum-same zero w = simp zero-mul
-sum-same (suc t) w = omega (arith, sum-same t w)
 
 -- a factor comes out of a sum
 pub total-scaled : (k : ℕ) (f : ℕ → ℕ) (xs : List ℕ) → total (λ x. k * f x) xs ≡ k * total f xs
@@ -35,7 +30,3 @@ pub sum-most : (m : ℕ) (xs : List ℕ) → ((i : ℕ) → getD xs i 0 ≤ m) �
 unfolding sum
 sum-most m [] h = omega arith
 sum-most m (x ∷ xs) h = omega (arith, h 0, sum-most m xs (λ i. h (suc i)))
-
--- a product of two numbers of 32 bits fits 64
-pub product-fits : (a b : ℕ) → a < 2 ^ 32 → b < 2 ^ 32 → a * b < 2 ^ 64
-product-fits a b ha hb = omega (arith, mul-le-mul {n₂ = 4294967295} {m₂ = 4294967295} (le-pred-of-lt ha) (le-pred-of-lt hb))

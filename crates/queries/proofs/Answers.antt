@@ -9,7 +9,7 @@ use lib.ListN.{getD}
 use Rattle.refusal.specs.declared.Check.{Check}
 use Rattle.refusal.specs.declared.Check.the-variants.{Pass, Refuse}
 use Rattle.refusal.specs.Checks.{unless, first, checked, need, given}
-use Rattle.refusal.proofs.Laws.{need-checked}
+use Rattle.refusal.proofs.Checks.{need-checked}
 use Rattle.benchmark.specs.Benchmark.{benchmark}
 use Rattle.tariff.specs.declared.Tariff.{Tariff}
 use Rattle.book.specs.declared.State.{State}

@@ -13,10 +13,10 @@ use Rattle.laws.specs.Notions.{every}
 use Rattle.laws.proofs.Every.{every-at, and-left, and-right}
 use Rattle.laws.proofs.Answers.{stops, ends}
 use Rattle.benchmark.specs.declared.Benchmarks.{Benchmarks}
-use Rattle.cap.specs.declared.Terms.{Terms}
+use Rattle.cap.specs.declared.CellNumbers.{CellNumbers}
 use Rattle.cap.specs.Cap.{Months}
+use Rattle.verdict.specs.Cells.{Cell, cellNumbers}
 use Rattle.queries.specs.Queries.{monthsAllowed}
-use Rattle.queries.specs.Reading.{termsIn}
 
 -- month j is at most 10,000
 abbrev pub small : List ℕ → ℕ → Bool
@@ -49,8 +49,8 @@ months-within t months e = (eqb-true (length months) t (and-left _ _ e), λ i. g
         leb-true (getD months i 0) 10000 (every-at (small months) (length months) (and-right (eqb (length months) t) _ e) i h)
     go i (no h) = omega (arith, List·getD-eq-default months 0 {n = i} (omega arith))
 
--- as many as the terms of a cell have
-pub months-for : (f : Benchmarks) (r a p : ℕ) (e : Terms) → e ≡ termsIn f r a p
+-- as many as the numbers of a cell have
+pub months-for : (f : Benchmarks) (a standing : ℕ) (c : Cell) (e : CellNumbers) → e ≡ cellNumbers f a standing c
     → (months : List ℕ) → monthsAllowed (f .months) months ≡ true → Months (e .months) months
-unfolding termsIn
-months-for f r a p e is months h = subst (λ (d : Terms). Months (d .months) months) (sym is) (months-within (f .months) months h)
+unfolding cellNumbers
+months-for f a standing c e is months h = subst (λ (d : CellNumbers). Months (d .months) months) (sym is) (months-within (f .months) months h)

@@ -3,11 +3,9 @@
 use mathlib.Core.Path.{_≡_}
 use mathlib.Core.Bool.{Bool, true, _&&_}
 use Prim.Native.Nat.{ℕ, _<_, _≤_}
-use native.Mathlib.Omega.{arith}
 use lib.Dec.{leb, ltb}
 use borrow.Author.Tests.{ltb-true, leb-true}
 use Rattle.laws.proofs.Every.{and-left, and-right}
-use Rattle.benchmark.specs.Benchmark.{place}
 use Rattle.tariff.specs.declared.Tariff.{Tariff}
 use Rattle.verdict.specs.Cells.{offered, cell}
 use Rattle.queries.specs.Queries.{inRanges, cellAllowed}
@@ -29,9 +27,6 @@ within r a p last e =
       method = ltb-true p 2 (and-right (ltb r 14 && ltb a 2) (ltb p 2) all);
       fourth = and-right (inRanges r a p) last e;
     }
-
-pub place-below : (r a p l : ℕ) → (inRanges r a p && ltb l 2) ≡ true → place r a p l < 112
-place-below r a p l e = let w = within r a p (ltb l 2) e in omega (arith, w .region, w .arrangement, w .method, ltb-true l 2 (w .fourth))
 
 pub total-most : (r a p n : ℕ) → (inRanges r a p && leb n 120000) ≡ true → n ≤ 120000
 total-most r a p n e = leb-true n 120000 (within r a p (leb n 120000) e .fourth)

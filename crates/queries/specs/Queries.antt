@@ -2,18 +2,16 @@
 -- Assumes nothing.
 use mathlib.Core.Bool.{Bool, _&&_}
 use mathlib.Core.List.{List}
-use Prim.Native.Nat.{ℕ, _+_, _*_}
+use Prim.Native.Nat.{ℕ, _*_}
 use lib.Dec.{leb, ltb, eqb}
 use lib.ListN.{length, getD}
 use Rattle.laws.specs.Notions.{every}
 use Rattle.refusal.specs.Checks.{need, given}
-use Rattle.calendar.specs.Calendar.{periodDays}
-use Rattle.sheet.specs.Sheet.{field}
 use Rattle.benchmark.specs.Benchmark.{benchmark}
 use Rattle.tariff.specs.declared.Tariff.{Tariff}
-use Rattle.cap.specs.declared.Terms.{Terms}
-use Rattle.cap.specs.Cap.{maximum, charged, capped, monthMost}
-use Rattle.verdict.specs.Cells.{offered, terms, cell}
+use Rattle.charge.specs.Charge.{monthMost}
+use Rattle.cap.specs.Cap.{maximum, charged, capped}
+use Rattle.verdict.specs.Cells.{cell, offered, cellNumbers, tariffNumbers}
 use Rattle.book.specs.declared.Book.{Book}
 use Rattle.book.specs.Calls.{Sheet}
 use Rattle.book.specs.Checks.{figuresOf, inside}
@@ -55,20 +53,11 @@ unfoldable pub benchmarkOf : Book → ℕ → ℕ → ℕ → ℕ → Telling
 benchmarkOf b r a p l =
     need refused (inRanges r a p && ltb l 2) 13 (given refused (inForce b) 10 (λ s. benchmarkCharge (benchmark (s .fields) r a p l)))
 
--- MAXIMUM (region, arrangement, method, total 0 to 120,000): "the same two; gives the whole number above and 12 × m"
-abbrev pub termsOf : Sheet → ℕ → ℕ → ℕ → Terms
-termsOf s r a p =
-    record {
-      lower = benchmark (s .fields) r a p 0;
-      upper = benchmark (s .fields) r a p 1;
-      m = field (s .fields) (93 + a);
-      months = s .period .months;
-      days = periodDays (s .period);
-    }
-
+-- MAXIMUM (region, arrangement, method, total 0 to 120,000): "the same two; gives the whole number above and 12 × m". No standing
+-- charge enters the maximum
 abbrev pub maximumIn : Sheet → ℕ → ℕ → ℕ → ℕ → Fraction
 maximumIn s r a p total =
-    let e = termsOf s r a p in record { number = maximum e total; denominator = 12 * e .m }
+    let e = cellNumbers (figuresOf s) a 0 (cell r p) in record { number = maximum e total; denominator = 12 * e .m }
 
 unfoldable pub maximumOf : Book → ℕ → ℕ → ℕ → ℕ → Telling
 maximumOf b r a p total =
@@ -84,7 +73,7 @@ monthsAllowed t months = eqb (length months) t && every (length months) (λ i. l
 -- "Gives 100 × 12 × m times the charge and times the maximum."
 abbrev pub quotationIn : Sheet → Tariff → ℕ → ℕ → List ℕ → Quotation
 quotationIn s x region method months =
-    let e = terms (figuresOf s) x (cell region method) in record { charge = charged e x months; maximum = capped e months }
+    let e = tariffNumbers (figuresOf s) x (cell region method) in record { charge = charged e x months; maximum = capped e months }
 
 -- QUOTE (code, region, method, months). 6: code outside 1 to 32. 9: the place is empty. 10. 13. "Drafts can be quoted."
 unfoldable pub quoteOf : Book → ℕ → ℕ → ℕ → List ℕ → Telling

@@ -3,17 +3,12 @@
 // require document 01's own sentence on the book, `Reachable`, since the figures are read from the book and are those of its sheet.
 ghost use mathlib.Core.Path.{_≡_};
 ghost use mathlib.Core.Bool.{_&&_};
-ghost use Prim.Native.Nat.{_<_};
 ghost use Rattle.refusal.specs.Checks.{unless};
 ghost use Rattle.refusal.specs.declared.Check.the-variants.{Pass};
-ghost use Rattle.benchmark.specs.Lawful.{Lawful};
-ghost use Rattle.cap.specs.Judged.{Fits};
 ghost use Rattle.book.specs.Book.{Reachable};
 ghost use Rattle.queries.specs.Queries.{tellingOf, inRanges, cellAllowed, monthsAllowed, benchmarkOf, maximumOf, quoteOf};
-ghost use Rattle.queries.specs.Reading.{refusalTold, termsIn};
-use benchmark::Benchmarks;
+ghost use Rattle.queries.specs.Reading.{refusalTold};
 use book::Book;
-use cap::Terms;
 use charge::Kwh;
 use refusal::Check;
 use tariff::Tariff;
@@ -59,23 +54,6 @@ fn ranges_check(region: u32, arrangement: u32, method: u32, last: bool) -> Check
     if last { Check::Pass } else { Check::Refuse(13) }
 }
 
-// The numbers of a cell, from the figures of the sheet in force.
-fn terms_in(figures: Benchmarks, region: usize, arrangement: usize, method: usize) -> Terms
-    requires { ⌜ Lawful figures × (region < 14) × (arrangement < 2) × (method < 2) ⌝ }
-    ensures { λ r. ⌜ (r ≡ termsIn figures region arrangement method) × Fits r ⌝ }
-{
-    let charges = figures.charges;
-    let levels = figures.levels;
-    let at = 8 * region + 4 * arrangement + 2 * method;
-    Terms {
-        lower: wide(charges[at]),
-        upper: wide(charges[at + 1]),
-        m: wide(levels[arrangement]),
-        months: wide(figures.months),
-        days: figures.days,
-    }
-}
-
 // BENCHMARK (region, arrangement, method, level). 13, 10.
 pub fn benchmark(b: Book, region: u32, arrangement: u32, method: u32, level: u32) -> Told
     requires { ⌜ Reachable b ⌝ }
@@ -88,10 +66,12 @@ pub fn benchmark(b: Book, region: u32, arrangement: u32, method: u32, level: u32
     };
     let figures = b.benchmarks;
     let charges = figures.charges;
-    let at = 8 * (region as usize)
-        + 4 * (arrangement as usize)
-        + 2 * (method as usize)
-        + (level as usize);
+    let at = benchmark::figure_index(
+        region as usize,
+        arrangement as usize,
+        method as usize,
+        level as usize,
+    );
     Told::Benchmark(wide(charges[at]))
 }
 
@@ -106,12 +86,7 @@ pub fn maximum(b: Book, region: u32, arrangement: u32, method: u32, total: u32) 
         return refused(checked);
     };
     let figures = b.benchmarks;
-    let e = terms_in(
-        figures,
-        region as usize,
-        arrangement as usize,
-        method as usize,
-    );
+    let e = verdict::numbers_in(figures, arrangement as usize, 0, region, method);
     let most = cap::maximum_of(e, Kwh(wide(total)));
     let number = most.0;
     let denominator = 12 * e.m;
@@ -180,7 +155,7 @@ pub fn quote(b: Book, code: u32, region: u32, method: u32, months: &[u32]) -> To
         return refused(checked);
     };
     let arrangement = verdict::arrangement_of(x);
-    let e = terms_in(figures, region as usize, arrangement, method as usize);
+    let e = verdict::numbers_in(figures, arrangement, x.standing, region, method);
     let sides = cap::sides_of(e, x, months);
     Told::Quote {
         charge: sides.charged,

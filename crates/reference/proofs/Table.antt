@@ -1,12 +1,12 @@
 -- The table of starred verdicts holds: the figures of the sheet by computation, the verdicts by the scan of the corners.
 -- Assumes nothing.
 use mathlib.Core.Path.{_≡_, refl, _∙_, ap}
+use mathlib.Core.Bool.{true}
 use mathlib.Core.List.{List, [], _∷_}
-use Prim.Native.Nat.{ℕ, suc}
+use Prim.Native.Nat.{ℕ}
 use lib.Count.{ones, onesIn}
-use lib.Dec.{lit<}
 use lib.IntN.{ℤ, pos, _-ℤ_}
-use lib.ListN.{length}
+use Rattle.laws.proofs.Pieces.{scan}
 use Rattle.laws.specs.Notions.{every, sum, total, tabulate, tabulateFrom}
 use Rattle.calendar.specs.Calendar.{periodDays, periodInRange, monthBegins, lengthAt, monthLength, leapYear}
 use Rattle.sheet.specs.Sheet.{rangeOf, fieldInRange, fieldsInRange, round, indexed, fourFit, paacFits, termsFit}
@@ -14,10 +14,11 @@ use Rattle.benchmark.specs.declared.Benchmarks.{Benchmarks}
 use Rattle.benchmark.specs.Benchmark.{benchmark, wc, pc, oc, nc, paenc, headroom, panc, figure, figures, ordered, setCheck, benchmarksOf}
 use Rattle.tariff.specs.Tariff.{tariffOf, recordCheck, validTariff, validKind, singleRegister, economy7, multiRegister, ratesWithin, zeroFrom, within, rising}
 use Rattle.charge.specs.Charge.{arrangement, tierCharge, weighted, monthCharge, charge}
-use Rattle.charge.specs.Tiers.{Rising, hundredths, ends}
+use Rattle.charge.specs.Tiers.{tiersOf}
 use Rattle.cap.specs.Cap.{maximum, charged, capped, excess}
-use Rattle.cap.specs.Judged.{scan}
-use Rattle.verdict.specs.Cells.{bit, offered, terms, cellCount, Verdict, opens, over}
+use Rattle.cap.specs.Corners.{cornersTo}
+use Rattle.cap.proofs.Scanned.{scannedMonths}
+use Rattle.verdict.specs.Cells.{bit, offered, cellNumbers, tariffNumbers, cellCount, Verdict, opens, over}
 use Rattle.verdict.proofs.Scanned.{scannedBelow, scannedVerdict}
 use Rattle.reference.specs.SheetS.{times, sheetS, flat, tiered, economySeven}
 use Rattle.reference.specs.Starred.{Starred, benchmarksS, firstOther, verdictOn, excessOf}
@@ -38,13 +39,12 @@ unfolding benchmarksOf figures figure tabulate tabulateFrom benchmark wc pc oc n
 is-known = refl
 
 -- a verdict by the scan, on the known figures
-on-known : (x : List ℕ) (v : Verdict) → length (hundredths (tariffOf x)) ≡ suc (length (ends (tariffOf x))) → Rising 0 (ends (tariffOf x)) 10000
-    → scannedVerdict known (tariffOf x) ≡ v → verdictOn x ≡ v
-on-known x v = by-scan benchmarksS known is-known (tariffOf x) v
+on-known : (x : List ℕ) (v : Verdict) → validTariff (tariffOf x) ≡ true → scannedVerdict known (tariffOf x) ≡ v → verdictOn x ≡ v
+on-known x v = by-scan benchmarksS known is-known x v
 
 -- the excess in region 0 with method 1, on the known figures
-by-figures : (x months : List ℕ) (d : ℤ) → excess (terms known (tariffOf x) firstOther) (tariffOf x) months ≡ d → excessOf x months ≡ d
-by-figures x months d e = ap (λ (b : Benchmarks). excess (terms b (tariffOf x) firstOther) (tariffOf x) months) is-known ∙ e
+by-figures : (x months : List ℕ) (d : ℤ) → excess (tariffNumbers known (tariffOf x) firstOther) (tariffOf x) months ≡ d → excessOf x months ≡ d
+by-figures x months d e = ap (λ (b : Benchmarks). excess (tariffNumbers b (tariffOf x) firstOther) (tariffOf x) months) is-known ∙ e
 
 -- the starred verdicts, by the scan
 record Scanned (judge : List ℕ → Verdict) : Type 0 where
@@ -57,7 +57,7 @@ record Scanned (judge : List ℕ → Verdict) : Type 0 where
   economy-over : judge (economySeven 23000 18000 12250) ≡ over firstOther (10000 ∷ 10000 ∷ 10000 ∷ []) (pos 367800000000)
 
 computed : Scanned (λ x. scannedVerdict known (tariffOf x))
-unfolding scannedVerdict scannedBelow offered bit terms arrangement scan tierCharge weighted monthCharge charge maximum charged capped excess sum total ends cellCount ones onesIn known times
+unfolding scannedVerdict scannedBelow offered bit cellNumbers arrangement scannedMonths cornersTo tiersOf scan tierCharge weighted monthCharge charge maximum charged capped excess sum total cellCount ones onesIn known times
 computed =
     record {
       within = refl;
@@ -71,16 +71,16 @@ computed =
 
 -- 300 kWh in one month, and 5 kWh in each
 below : excessOf (tiered 20000 20000 100 15000) (300 ∷ 0 ∷ 0 ∷ []) ≡ pos 0 -ℤ pos 3346470000000
-unfolding terms arrangement tierCharge charge maximum charged capped excess sum total known times
+unfolding cellNumbers arrangement tierCharge charge maximum charged capped excess sum total known times
 below = by-figures (tiered 20000 20000 100 15000) (300 ∷ 0 ∷ 0 ∷ []) _ refl
 
 nought : excessOf (tiered 0 165509 5 0) (5 ∷ 5 ∷ 5 ∷ []) ≡ pos 0
-unfolding terms arrangement tierCharge charge maximum charged capped excess sum total known times
+unfolding cellNumbers arrangement tierCharge charge maximum charged capped excess sum total known times
 nought = by-figures (tiered 0 165509 5 0) (5 ∷ 5 ∷ 5 ∷ []) _ refl
 
 -- THE TABLE
 pub starred : Starred
-unfolding setCheck fieldsInRange fieldInRange rangeOf every termsFit fourFit paacFits ordered periodInRange figures figure tabulate tabulateFrom benchmark wc pc oc nc paenc headroom panc indexed round sheetS times periodDays monthBegins lengthAt monthLength leapYear hundredths ends Rising recordCheck validTariff validKind singleRegister economy7 multiRegister ratesWithin zeroFrom within rising
+unfolding setCheck fieldsInRange fieldInRange rangeOf every termsFit fourFit paacFits ordered periodInRange figures figure tabulate tabulateFrom benchmark wc pc oc nc paenc headroom panc indexed round sheetS times periodDays monthBegins lengthAt monthLength leapYear recordCheck validTariff validKind singleRegister economy7 multiRegister ratesWithin zeroFrom within rising
 starred =
     record {
       accepted = refl;
@@ -90,14 +90,14 @@ starred =
       credit-nil = refl;
       credit-m = refl;
       economy-m = refl;
-      within = on-known (flat 23000 18000) _ refl (lit< tt) (computed .within);
-      just-within = on-known (flat 23960 18000) _ refl (lit< tt) (computed .just-within);
-      just-over = on-known (flat 23961 18000) _ refl (lit< tt) (computed .just-over);
-      tiers-over = on-known (tiered 20000 20000 100 15000) _ refl (lit< tt, lit< tt) (computed .tiers-over);
+      within = on-known (flat 23000 18000) _ refl (computed .within);
+      just-within = on-known (flat 23960 18000) _ refl (computed .just-within);
+      just-over = on-known (flat 23961 18000) _ refl (computed .just-over);
+      tiers-over = on-known (tiered 20000 20000 100 15000) _ refl (computed .tiers-over);
       one-month-below = below;
-      at-the-cap = on-known (tiered 0 165509 5 0) _ refl (lit< tt, lit< tt) (computed .at-the-cap);
+      at-the-cap = on-known (tiered 0 165509 5 0) _ refl (computed .at-the-cap);
       excess-nought = nought;
-      a-mill-over = on-known (tiered 0 165510 5 0) _ refl (lit< tt, lit< tt) (computed .a-mill-over);
-      economy-over = on-known (economySeven 23000 18000 12250) _ refl (lit< tt) (computed .economy-over);
+      a-mill-over = on-known (tiered 0 165510 5 0) _ refl (computed .a-mill-over);
+      economy-over = on-known (economySeven 23000 18000 12250) _ refl (computed .economy-over);
       records = (refl, refl, refl);
     }

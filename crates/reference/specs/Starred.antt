@@ -13,7 +13,7 @@ use Rattle.benchmark.specs.declared.Benchmarks.{Benchmarks}
 use Rattle.benchmark.specs.Benchmark.{benchmark, benchmarksOf, setCheck}
 use Rattle.tariff.specs.Tariff.{tariffOf, recordCheck}
 use Rattle.cap.specs.Cap.{excess}
-use Rattle.verdict.specs.Cells.{Cell, Verdict, opens, over, verdict, terms}
+use Rattle.verdict.specs.Cells.{Cell, Verdict, opens, over, verdict, tariffNumbers}
 use Rattle.reference.specs.SheetS.{sheetS, periodS, flat, tiered, economySeven}
 
 -- the figures of sheet S for its period
@@ -29,7 +29,7 @@ abbrev pub verdictOn : List ℕ → Verdict
 verdictOn x = verdict benchmarksS (tariffOf x)
 
 abbrev pub excessOf : List ℕ → List ℕ → ℤ
-excessOf x months = excess (terms benchmarksS (tariffOf x) firstOther) (tariffOf x) months
+excessOf x months = excess (tariffNumbers benchmarksS (tariffOf x) firstOther) (tariffOf x) months
 
 -- in every region, alike
 abbrev pub everywhere : ℕ → ℕ → ℕ → ℕ → Bool

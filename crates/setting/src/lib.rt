@@ -32,7 +32,7 @@ fn judged(p: Place, figures: Benchmarks) -> Place
             let found = verdict::first_over(figures, book::tariff_in(p));
             match found {
                 Found::Nowhere => p,
-                Found::Over(_, _, _, _) => book::in_state(p, State::Draft),
+                Found::Over(_, _) => book::in_state(p, State::Draft),
             }
         }
     }

@@ -9,8 +9,8 @@ ghost use lib.ListN.{length};
 ghost use Rattle.book.specs.Book.{Reachable};
 use book::Book;
 use book::Reply;
-use codes::CodeAct;
 use calendar::Period;
+use codes::CodeAct;
 use libc::STDOUT_FILENO;
 use queries::Told;
 

@@ -11,7 +11,7 @@ use borrow.Author.Tests.{leb-true, ltb-true, eqb-true}
 use Rattle.laws.specs.Notions.{sum}
 use Rattle.laws.proofs.Every.{and-left, and-right, every-at}
 use Rattle.tariff.specs.declared.Tariff.{Tariff}
-use Rattle.tariff.specs.Tariff.{ratesWithin, zeroFrom, within, rising, singleRegister, economy7, multiRegister, validKind, validTariff}
+use Rattle.tariff.specs.Tariff.{wholeShare, rateMost, standingMost, stepMost, ratesWithin, zeroFrom, within, rising, singleRegister, economy7, multiRegister, validKind, validTariff}
 
 -- the parts of joined tests that hold
 three : (a b c : Bool) → (a && b && c) ≡ true → (a ≡ true) × (b ≡ true) × (c ≡ true)
@@ -30,17 +30,17 @@ between : (low a high : ℕ) → (leb low a && leb a high) ≡ true → (low ≤
 between low a high e = (leb-true low a (and-left (leb low a) (leb a high) e), leb-true a high (and-right (leb low a) (leb a high) e))
 
 parts : (x : Tariff) → validTariff x ≡ true
-    → (leb (x .standing) 1000000 ≡ true)
+    → (leb (x .standing) standingMost ≡ true)
     × ((leb 1 (x .regions) && leb (x .regions) 16383) ≡ true)
     × ((leb 1 (x .methods) && leb (x .methods) 3) ≡ true)
     × (ratesWithin (x .rates) ≡ true)
     × (validKind x ≡ true)
 unfolding validTariff
 parts x v =
-    five (leb (x .standing) 1000000) (leb 1 (x .regions) && leb (x .regions) 16383) (leb 1 (x .methods) && leb (x .methods) 3) (ratesWithin (x .rates)) (validKind x) v
+    five (leb (x .standing) standingMost) (leb 1 (x .regions) && leb (x .regions) 16383) (leb 1 (x .methods) && leb (x .methods) 3) (ratesWithin (x .rates)) (validKind x) v
 
-pub valid-standing : (x : Tariff) → validTariff x ≡ true → x .standing ≤ 1000000
-valid-standing x v = leb-true (x .standing) 1000000 (parts x v .0)
+pub valid-standing : (x : Tariff) → validTariff x ≡ true → x .standing ≤ standingMost
+valid-standing x v = leb-true (x .standing) standingMost (parts x v .0)
 
 pub valid-regions : (x : Tariff) → validTariff x ≡ true → (1 ≤ x .regions) × (x .regions ≤ 16383)
 valid-regions x v = between 1 (x .regions) 16383 (parts x v .1)
@@ -54,9 +54,9 @@ valid-rates x v = parts x v .3
 pub valid-kind : (x : Tariff) → validTariff x ≡ true → validKind x ≡ true
 valid-kind x v = parts x v .4
 
-pub rates-at : (rates : List ℕ) → ratesWithin rates ≡ true → (i : ℕ) → i < 4 → getD rates i 0 ≤ 200000
+pub rates-at : (rates : List ℕ) → ratesWithin rates ≡ true → (i : ℕ) → i < 4 → getD rates i 0 ≤ rateMost
 unfolding ratesWithin
-rates-at rates e i h = leb-true (getD rates i 0) 200000 (every-at (λ i. leb (getD rates i 0) 200000) 4 e i h)
+rates-at rates e i h = leb-true (getD rates i 0) rateMost (every-at (λ i. leb (getD rates i 0) rateMost) 4 e i h)
 
 pub within-at : (a : List ℕ) (k low high : ℕ) → within a k low high ≡ true → (i : ℕ) → i < k → (low ≤ getD a i 0) × (getD a i 0 ≤ high)
 unfolding within
@@ -80,19 +80,16 @@ pub by-kind : {P : Type 0} (x : Tariff) → validTariff x ≡ true → (x .kind 
 unfolding validKind
 by-kind x v f g h = by-test x (eqb (x .kind) 1) (eqb (x .kind) 2) (eqb (x .kind) 3) refl refl refl (valid-kind x v) f g h
 
-pub valid-kinds : (x : Tariff) → validTariff x ≡ true → (1 ≤ x .kind) × (x .kind ≤ 3)
-valid-kinds x v = by-kind x v (λ k. (omega arith, omega arith)) (λ k. (omega arith, omega arith)) (λ k. (omega arith, omega arith))
-
 -- kind 1: n from 1 to 4, and n - 1 steps from 1 to 9,999 that rise
 pub valid-single : (x : Tariff) → validTariff x ≡ true → x .kind ≡ 1
-    → (1 ≤ x .n) × (x .n ≤ 4) × (within (x .steps) (x .n - 1) 1 9999 ≡ true) × (rising (x .steps) (x .n - 1) ≡ true)
+    → (1 ≤ x .n) × (x .n ≤ 4) × (within (x .steps) (x .n - 1) 1 stepMost ≡ true) × (rising (x .steps) (x .n - 1) ≡ true)
 unfolding validKind singleRegister
 valid-single x v k =
     let e : validKind x ≡ true = valid-kind x v in
     let s : singleRegister x ≡ true = rw k at e in
-    let steps : Bool = within (x .steps) (x .n - 1) 1 9999 && rising (x .steps) (x .n - 1) && zeroFrom (x .rates) (x .n) in
+    let steps : Bool = within (x .steps) (x .n - 1) 1 stepMost && rising (x .steps) (x .n - 1) && zeroFrom (x .rates) (x .n) in
     let h = three (leb 1 (x .n)) (leb (x .n) 4) (steps && zeroFrom (x .steps) (x .n - 1)) s in
-    let w = three (within (x .steps) (x .n - 1) 1 9999) (rising (x .steps) (x .n - 1)) (zeroFrom (x .rates) (x .n)) (and-left steps (zeroFrom (x .steps) (x .n - 1)) (h .2)) in
+    let w = three (within (x .steps) (x .n - 1) 1 stepMost) (rising (x .steps) (x .n - 1)) (zeroFrom (x .rates) (x .n)) (and-left steps (zeroFrom (x .steps) (x .n - 1)) (h .2)) in
     (leb-true 1 (x .n) (h .0), leb-true (x .n) 4 (h .1), w .0, w .1)
 
 -- kind 2: two rates
@@ -103,16 +100,16 @@ valid-economy7 x v k =
     let s : economy7 x ≡ true = rw k at e in
     eqb-true (x .n) 2 (three (eqb (x .n) 2) (zeroFrom (x .rates) 2) (zeroFrom (x .steps) 0) s .0)
 
--- kind 3: n from 2 to 4, and n shares whose sum is 100
-pub valid-multi : (x : Tariff) → validTariff x ≡ true → x .kind ≡ 3 → (2 ≤ x .n) × (x .n ≤ 4) × (sum (take (x .n) (x .steps)) ≡ 100)
+-- kind 3: n from 2 to 4, and n shares that add up to the whole
+pub valid-multi : (x : Tariff) → validTariff x ≡ true → x .kind ≡ 3 → (2 ≤ x .n) × (x .n ≤ 4) × (sum (take (x .n) (x .steps)) ≡ wholeShare)
 unfolding validKind multiRegister
 valid-multi x v k =
     let e : validKind x ≡ true = valid-kind x v in
     let s : multiRegister x ≡ true = rw k at e in
-    let steps : Bool = within (x .steps) (x .n) 0 100 && eqb (sum (take (x .n) (x .steps))) 100 && zeroFrom (x .rates) (x .n) in
+    let steps : Bool = within (x .steps) (x .n) 0 wholeShare && eqb (sum (take (x .n) (x .steps))) wholeShare && zeroFrom (x .rates) (x .n) in
     let h = three (leb 2 (x .n)) (leb (x .n) 4) (steps && zeroFrom (x .steps) (x .n)) s in
-    let w = three (within (x .steps) (x .n) 0 100) (eqb (sum (take (x .n) (x .steps))) 100) (zeroFrom (x .rates) (x .n)) (and-left steps (zeroFrom (x .steps) (x .n)) (h .2)) in
-    (leb-true 2 (x .n) (h .0), leb-true (x .n) 4 (h .1), eqb-true (sum (take (x .n) (x .steps))) 100 (w .1))
+    let w = three (within (x .steps) (x .n) 0 wholeShare) (eqb (sum (take (x .n) (x .steps))) wholeShare) (zeroFrom (x .rates) (x .n)) (and-left steps (zeroFrom (x .steps) (x .n)) (h .2)) in
+    (leb-true 2 (x .n) (h .0), leb-true (x .n) 4 (h .1), eqb-true (sum (take (x .n) (x .steps))) wholeShare (w .1))
 
 -- of each kind, n is from 1 to 4
 pub valid-n : (x : Tariff) → validTariff x ≡ true → (1 ≤ x .n) × (x .n ≤ 4)

@@ -11,6 +11,19 @@ use Rattle.refusal.specs.declared.Check.the-variants.{Pass}
 use Rattle.refusal.specs.Checks.{unless}
 use Rattle.tariff.specs.declared.Tariff.{Tariff}
 
+-- what the shares of the registers add up to, the base of the percentages; the most of a rate, of a standing charge and of a step
+abbrev pub wholeShare : ℕ
+wholeShare = 100
+
+abbrev pub rateMost : ℕ
+rateMost = 200000
+
+abbrev pub standingMost : ℕ
+standingMost = 1000000
+
+abbrev pub stepMost : ℕ
+stepMost = 9999
+
 -- "13 numbers: 0 kind; 1 n; 2 standing charge per day; 3 regions; 4 methods; 5-8 rates; 9-12 steps."
 abbrev pub tariffOf : List ℕ → Tariff
 tariffOf x =
@@ -26,7 +39,7 @@ tariffOf x =
 
 -- rates in mills per kWh, 0 to 200,000
 unfoldable pub ratesWithin : List ℕ → Bool
-ratesWithin rates = every 4 (λ i. leb (getD rates i 0) 200000)
+ratesWithin rates = every 4 (λ i. leb (getD rates i 0) rateMost)
 
 -- "Places beyond those used are 0": of four places, those from k on
 unfoldable pub zeroFrom : List ℕ → ℕ → Bool
@@ -43,7 +56,7 @@ rising a k = every (k - 1) (λ i. ltb (getD a i 0) (getD a (i + 1) 0))
 unfoldable pub singleRegister : Tariff → Bool
 singleRegister x =
     leb 1 (x .n) && leb (x .n) 4
-    && (within (x .steps) (x .n - 1) 1 9999 && rising (x .steps) (x .n - 1) && zeroFrom (x .rates) (x .n) && zeroFrom (x .steps) (x .n - 1))
+    && (within (x .steps) (x .n - 1) 1 stepMost && rising (x .steps) (x .n - 1) && zeroFrom (x .rates) (x .n) && zeroFrom (x .steps) (x .n - 1))
 
 -- "Kind 2, Economy 7: n 2, peak rate then off-peak, no steps."
 unfoldable pub economy7 : Tariff → Bool
@@ -53,7 +66,7 @@ economy7 x = eqb (x .n) 2 && zeroFrom (x .rates) 2 && zeroFrom (x .steps) 0
 unfoldable pub multiRegister : Tariff → Bool
 multiRegister x =
     leb 2 (x .n) && leb (x .n) 4
-    && (within (x .steps) (x .n) 0 100 && eqb (sum (take (x .n) (x .steps))) 100 && zeroFrom (x .rates) (x .n) && zeroFrom (x .steps) (x .n))
+    && (within (x .steps) (x .n) 0 wholeShare && eqb (sum (take (x .n) (x .steps))) wholeShare && zeroFrom (x .rates) (x .n) && zeroFrom (x .steps) (x .n))
 
 unfoldable pub validKind : Tariff → Bool
 validKind x =
@@ -62,7 +75,7 @@ validKind x =
 -- standing charge 0 to 1,000,000; regions bits 0 to 13, not empty; methods bits 0 and 1, not empty; the rates; the kind
 unfoldable pub validTariff : Tariff → Bool
 validTariff x =
-    leb (x .standing) 1000000
+    leb (x .standing) standingMost
     && (leb 1 (x .regions) && leb (x .regions) 16383)
     && (leb 1 (x .methods) && leb (x .methods) 3)
     && ratesWithin (x .rates)

@@ -9,6 +9,18 @@ ghost use Rattle.laws.specs.Notions.{sum};
 ghost use Rattle.tariff.specs.Tariff.{tariffOf, ratesWithin, zeroFrom, within, rising, singleRegister, economy7, multiRegister, validTariff, recordCheck};
 use refusal::Check;
 
+// What the shares of the registers add up to, the base of the percentages, and the same as a factor of charges; the most of a rate,
+// of a standing charge and of a step.
+pub const WHOLE_SHARE: u32 = 100;
+
+pub const WHOLE: u64 = WHOLE_SHARE as u64;
+
+pub const RATE_MOST: u32 = 200_000;
+
+pub const STANDING_MOST: u32 = 1_000_000;
+
+pub const STEP_MOST: u32 = 9_999;
+
 // A record: numbers 0 to 4, the rates (5 to 8) and the steps (9 to 12).
 pub struct Tariff {
     pub kind: u32,
@@ -36,13 +48,13 @@ pub fn tariff_of(x: &[u32]) -> Tariff
     }
 }
 
-// Each rate is at most 200,000.
+// Each rate is at most the greatest.
 fn rates_within(rates: [u32; 4]) -> bool
     ensures { λ r. ⌜ r ≡ ratesWithin rates ⌝ }
 {
     let mut i: usize = 0;
     while i < 4 {
-        if 200_000 < rates[i] {
+        if RATE_MOST < rates[i] {
             return false;
         }
         i += 1;
@@ -131,7 +143,7 @@ fn single_register(x: Tariff) -> bool
     if 4 < tiers {
         return false;
     }
-    all_within(steps, tiers - 1, 1, 9_999)
+    all_within(steps, tiers - 1, 1, STEP_MOST)
         && all_rising(steps, tiers - 1)
         && zero_from(rates, tiers)
         && zero_from(steps, tiers - 1)
@@ -157,8 +169,8 @@ fn multi_register(x: Tariff) -> bool
     if 4 < registers {
         return false;
     }
-    all_within(steps, registers, 0, 100)
-        && sum_of(steps, registers) == 100
+    all_within(steps, registers, 0, WHOLE_SHARE)
+        && sum_of(steps, registers) == WHOLE
         && zero_from(rates, registers)
         && zero_from(steps, registers)
 }
@@ -168,7 +180,7 @@ fn is_valid(x: Tariff) -> bool
     ensures { λ r. ⌜ r ≡ validTariff x ⌝ }
 {
     let rates = x.rates;
-    if 1_000_000 < x.standing {
+    if STANDING_MOST < x.standing {
         return false;
     }
     if x.regions < 1 {

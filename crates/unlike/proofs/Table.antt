@@ -1,31 +1,31 @@
 -- The table of sheet U holds: the figures by computation, the verdicts by the scan of the corners.
 -- Assumes nothing.
 use mathlib.Core.Path.{_≡_, refl}
+use mathlib.Core.Bool.{true}
 use mathlib.Core.List.{List, [], _∷_}
-use Prim.Native.Nat.{ℕ, suc}
+use Prim.Native.Nat.{ℕ}
 use lib.Count.{ones, onesIn}
-use lib.Dec.{lit<}
 use lib.IntN.{pos}
-use lib.ListN.{length}
+use Rattle.laws.proofs.Pieces.{scan}
 use Rattle.laws.specs.Notions.{every, sum, total, tabulate, tabulateFrom}
 use Rattle.calendar.specs.Calendar.{periodDays, periodInRange, monthBegins, lengthAt, monthLength, leapYear}
 use Rattle.sheet.specs.Sheet.{rangeOf, fieldInRange, fieldsInRange, round, indexed, fourFit, paacFits, termsFit}
 use Rattle.benchmark.specs.Benchmark.{benchmark, wc, pc, oc, nc, paenc, headroom, panc, figure, figures, ordered, setCheck, benchmarksOf}
 use Rattle.tariff.specs.Tariff.{tariffOf, recordCheck, validTariff, validKind, singleRegister, economy7, multiRegister, ratesWithin, zeroFrom, within, rising}
 use Rattle.charge.specs.Charge.{arrangement, tierCharge, weighted, monthCharge, charge}
-use Rattle.charge.specs.Tiers.{Rising, hundredths, ends}
+use Rattle.charge.specs.Tiers.{tiersOf}
 use Rattle.cap.specs.Cap.{maximum, charged, capped, excess}
-use Rattle.cap.specs.Judged.{scan}
-use Rattle.verdict.specs.Cells.{cell, bit, offered, terms, cellCount, Verdict, opens, over}
+use Rattle.cap.specs.Corners.{cornersTo}
+use Rattle.cap.proofs.Scanned.{scannedMonths}
+use Rattle.verdict.specs.Cells.{cell, bit, offered, cellNumbers, cellCount, Verdict, opens, over}
 use Rattle.verdict.proofs.Scanned.{scannedBelow, scannedVerdict}
 use Rattle.reference.proofs.Scanning.{by-scan}
 use Rattle.unlike.specs.SheetU.{networks, sheetU, periodU, threeTiers, peakAt, threeRegisters, allInOne, loneField, lonePair}
 use Rattle.unlike.specs.Unlike.{Unlike, verdictOn}
 use Rattle.unlike.proofs.Figures.{known, is-known}
 
-on-known : (x : List ℕ) (v : Verdict) → length (hundredths (tariffOf x)) ≡ suc (length (ends (tariffOf x))) → Rising 0 (ends (tariffOf x)) 10000
-    → scannedVerdict known (tariffOf x) ≡ v → verdictOn x ≡ v
-on-known x v = by-scan (benchmarksOf sheetU periodU) known is-known (tariffOf x) v
+on-known : (x : List ℕ) (v : Verdict) → validTariff (tariffOf x) ≡ true → scannedVerdict known (tariffOf x) ≡ v → verdictOn x ≡ v
+on-known x v = by-scan (benchmarksOf sheetU periodU) known is-known x v
 
 -- the verdicts, by the scan
 record Scanned (judge : List ℕ → Verdict) : Type 0 where
@@ -37,7 +37,7 @@ record Scanned (judge : List ℕ → Verdict) : Type 0 where
   all-in-one : judge allInOne ≡ opens 2
 
 computed : Scanned (λ x. scannedVerdict known (tariffOf x))
-unfolding scannedVerdict scannedBelow offered bit terms arrangement scan tierCharge weighted monthCharge charge maximum charged capped excess sum total ends cellCount ones onesIn known
+unfolding scannedVerdict scannedBelow offered bit cellNumbers arrangement scannedMonths cornersTo tiersOf scan tierCharge weighted monthCharge charge maximum charged capped excess sum total cellCount ones onesIn known
 computed =
     record {
       tiers-over = refl;
@@ -50,19 +50,19 @@ computed =
 
 -- THE TABLE
 pub unlike : Unlike
-unfolding setCheck fieldsInRange fieldInRange rangeOf every sum termsFit fourFit paacFits ordered periodInRange figures figure tabulate tabulateFrom benchmark wc pc oc nc paenc headroom panc indexed round sheetU networks loneField lonePair periodDays monthBegins lengthAt monthLength leapYear hundredths ends Rising recordCheck validTariff validKind singleRegister economy7 multiRegister ratesWithin zeroFrom within rising
+unfolding setCheck fieldsInRange fieldInRange rangeOf every sum termsFit fourFit paacFits ordered periodInRange figures figure tabulate tabulateFrom benchmark wc pc oc nc paenc headroom panc indexed round sheetU networks loneField lonePair periodDays monthBegins lengthAt monthLength leapYear recordCheck validTariff validKind singleRegister economy7 multiRegister ratesWithin zeroFrom within rising
 unlike =
     record {
       accepted = refl;
       days = refl;
       first-region = refl;
       last-region = refl;
-      tiers-over = on-known (threeTiers 27000) _ refl (lit< tt, (lit< tt, lit< tt)) (computed .tiers-over);
-      tiers-within = on-known (threeTiers 26000) _ refl (lit< tt, (lit< tt, lit< tt)) (computed .tiers-within);
-      economy-over = on-known (peakAt 16100) _ refl (lit< tt) (computed .economy-over);
-      registers-over = on-known (threeRegisters 15000) _ refl (lit< tt) (computed .registers-over);
-      registers-within = on-known (threeRegisters 14000) _ refl (lit< tt) (computed .registers-within);
-      all-in-one = on-known allInOne _ refl (lit< tt) (computed .all-in-one);
+      tiers-over = on-known (threeTiers 27000) _ refl (computed .tiers-over);
+      tiers-within = on-known (threeTiers 26000) _ refl (computed .tiers-within);
+      economy-over = on-known (peakAt 16100) _ refl (computed .economy-over);
+      registers-over = on-known (threeRegisters 15000) _ refl (computed .registers-over);
+      registers-within = on-known (threeRegisters 14000) _ refl (computed .registers-within);
+      all-in-one = on-known allInOne _ refl (computed .all-in-one);
       records = (refl, refl, refl, refl);
       each-pair = refl;
     }

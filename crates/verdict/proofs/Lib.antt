@@ -1,4 +1,4 @@
 pub mod Meaning
 pub mod Count
-pub mod Scanned
 pub mod Walk
+pub mod Scanned

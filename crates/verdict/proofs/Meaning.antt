@@ -10,22 +10,11 @@ use native.Mathlib.Omega.{arith}
 use Rattle.laws.proofs.Every.{and-left, and-right, and-both}
 use Rattle.benchmark.specs.declared.Benchmarks.{Benchmarks}
 use Rattle.tariff.specs.declared.Tariff.{Tariff}
-use Rattle.cap.specs.Decided.{exceeds?}
-use Rattle.verdict.specs.Cells.{Cell, cell, offered, Offered, terms, ExceedsIn, Before, cellAt, decided, exceedsAt, firstOf, firstBelow, firstOver}
+use Rattle.cap.specs.Decided.{exceeds?, decided}
+use Rattle.cap.proofs.Comparing.{decided-yes, yes-decided}
+use Rattle.verdict.specs.Cells.{Cell, cell, offered, Offered, tariffNumbers, ExceedsIn, Before, cellAt, exceedsAt, firstOf, firstBelow, firstOver}
 
--- a decision and what it decides
-pub decided-yes : {P : Type 0} (d : Dec P) → decided d ≡ true → P
-decided-yes (yes p) e = p
-decided-yes (no p) e = absurd (let z : _≡_ {A = ℕ} 0 1 = cc in omega arith)
-
-pub yes-decided : {P : Type 0} (d : Dec P) → P → decided d ≡ true
-yes-decided (yes p) h = refl
-yes-decided (no p) h = absurd (p h)
-
-pub no-decided : {P : Type 0} (d : Dec P) → (P → ⊥) → decided d ≡ false
-no-decided (yes p) h = absurd (h p)
-no-decided (no p) h = refl
-
+-- not both answers of a test
 pub not-both : {b : Bool} → b ≡ true → b ≡ false → ⊥
 not-both {b} p q = let e : true ≡ false = sym p ∙ q in let z : _≡_ {A = ℕ} 0 1 = cc in omega arith
 
@@ -114,18 +103,18 @@ module _ (b : Benchmarks) (x : Tariff) where
   unfolding exceedsAt
   hit c o h =
       rw (cell-at-rank c (o .1))
-      (and-both (offered x c) (decided (exceeds? (terms b x c) x)) (o .2) (yes-decided (exceeds? (terms b x c) x) h))
+      (and-both (offered x c) (decided (exceeds? (tariffNumbers b x c) x)) (o .2) (yes-decided (exceeds? (tariffNumbers b x c) x) h))
 
   pub hit-offered : (n : ℕ) → n < 28 → exceedsAt b x n ≡ true → Offered x (cellAt n)
   unfolding exceedsAt
   hit-offered n h e =
-      (omega arith, omega arith, and-left (offered x (cellAt n)) (decided (exceeds? (terms b x (cellAt n)) x)) e)
+      (omega arith, omega arith, and-left (offered x (cellAt n)) (decided (exceeds? (tariffNumbers b x (cellAt n)) x)) e)
 
   pub hit-exceeds : (n : ℕ) → exceedsAt b x n ≡ true → ExceedsIn b x (cellAt n)
   unfolding exceedsAt
   hit-exceeds n e =
-      decided-yes (exceeds? (terms b x (cellAt n)) x)
-      (and-right (offered x (cellAt n)) (decided (exceeds? (terms b x (cellAt n)) x)) e)
+      decided-yes (exceeds? (tariffNumbers b x (cellAt n)) x)
+      (and-right (offered x (cellAt n)) (decided (exceeds? (tariffNumbers b x (cellAt n)) x)) e)
 
   -- no cell is found: the tariff exceeds in no offered cell
   pub none-exceeds : firstOver b x ≡ none → (c : Cell) → Offered x c → ExceedsIn b x c → ⊥

@@ -1,6 +1,6 @@
 -- The walk over the cells, one step at a time.
 -- Assumes nothing.
-use mathlib.Core.Path.{_≡_, refl, sym, _∙_, ap, subst₂}
+use mathlib.Core.Path.{_≡_, refl, sym, _∙_, ap, ap₂, subst, subst₂}
 use mathlib.Core.Bool.{Bool, true, false, cond, and-false}
 use mathlib.Core.Option.{none, some}
 use Prim.Native.Nat.{ℕ, suc, _+_, _*_, _-_, _<_, _≤_}
@@ -8,22 +8,23 @@ use native.Mathlib.Nat.{add-zero}
 use native.Mathlib.Omega.{arith}
 use lib.Dec.{eqb}
 use lib.IntN.{pos}
-use lib.ListN.{getD, replicate}
+use lib.ListN.{getD, take}
 use Rattle.benchmark.specs.declared.Benchmarks.{Benchmarks}
-use Rattle.benchmark.specs.Benchmark.{place}
+use Rattle.benchmark.specs.Benchmark.{figureIndex}
 use Rattle.benchmark.specs.Lawful.{Lawful}
 use Rattle.tariff.specs.declared.Tariff.{Tariff}
+use Rattle.tariff.specs.Tariff.{standingMost, validTariff}
+use Rattle.tariff.proofs.Validity.{valid-standing}
 use Rattle.charge.specs.Charge.{arrangement}
-use Rattle.cap.specs.declared.Terms.{Terms}
-use Rattle.cap.specs.declared.Judged.the-variants.{Within, Over}
-use Rattle.cap.specs.Cap.{worstMonth, worstMonths}
-use Rattle.cap.specs.Decided.{exceeds?}
-use Rattle.cap.specs.Judged.{Fits, Judges}
+use Rattle.cap.specs.declared.CellNumbers.{CellNumbers}
+use Rattle.cap.specs.declared.Corners.{Corners}
+use Rattle.cap.specs.declared.WorstCase.{WorstCase}
+use Rattle.cap.specs.Decided.{exceeds?, decided}
+use Rattle.cap.specs.Corners.{Fits, Cornered, Carries}
 use Rattle.verdict.specs.declared.Found.the-variants as found
-use Rattle.verdict.specs.declared.Outcome.the-variants as outcome
-use Rattle.verdict.specs.Cells.{Cell, bit, offered, terms, cellAt, exceedsAt, firstBelow, firstOver, cellCount, opens, over, verdictAt, verdict, cell}
-use Rattle.verdict.specs.Found.{Finds, verdictOf}
-use Rattle.verdict.proofs.Meaning.{cell-at-rank, yes-decided, no-decided, below-none, below-here, below-later}
+use Rattle.verdict.specs.Cells.{Cell, bit, offered, peakShare, cellNumbers, tariffNumbers, exceedsAt, firstBelow, firstOver, cellCount, opens, over, verdictAt, verdict, cell}
+use Rattle.verdict.specs.Rulings.{Finds}
+use Rattle.verdict.proofs.Meaning.{cell-at-rank, below-none, below-here, below-later}
 
 -- arrangement 0 or 1
 pub arrangement-small : (x : Tariff) → arrangement x < 2
@@ -34,34 +35,51 @@ arrangement-small x = go (eqb (x .kind) 1)
     go true = omega arith
     go false = omega arith
 
--- the terms that the code reads are those of the cell
-pub terms-are : (b : Benchmarks) (x : Tariff) (r p a : ℕ) (e : Terms) → a ≡ arrangement x
-    → e .lower ≡ getD (b .charges) (8 * r + 4 * a + 2 * p) 0 → e .upper ≡ getD (b .charges) (8 * r + 4 * a + 2 * p + 1) 0
-    → e .m ≡ getD (b .levels) a 0 → e .months ≡ b .months → e .days ≡ b .days → e ≡ terms b x (cell r p)
-unfolding terms
-terms-are b x r p a e h low up m t d =
-    let at : 8 * r + 4 * arrangement x + 2 * p + 0 ≡ 8 * r + 4 * arrangement x + 2 * p = add-zero _ in
-    let l : e .lower ≡ getD (b .charges) (place r (arrangement x) p 0) 0 = low ∙ rw (h, at) refl in
-    let u : e .upper ≡ getD (b .charges) (place r (arrangement x) p 1) 0 = up ∙ rw h refl in
-    let v : e .m ≡ getD (b .levels) (arrangement x) 0 = m ∙ rw h refl in
-    λ i. record { lower = l i; upper = u i; m = v i; months = t i; days = d i }
-
--- and fit
-pub terms-fit : (b : Benchmarks) (x : Tariff) → Lawful b → (r p : ℕ) → r < 14 → p < 2 → Fits (terms b x (cell r p))
-unfolding terms
-terms-fit b x h r p hr hp =
-    let a : arrangement x < 2 = arrangement-small x in
-    let j : 4 * r + 2 * arrangement x + p < 56 = omega arith in
-    let low : 2 * (4 * r + 2 * arrangement x + p) ≡ 8 * r + 4 * arrangement x + 2 * p + 0 = omega arith in
-    let up : 2 * (4 * r + 2 * arrangement x + p) + 1 ≡ 8 * r + 4 * arrangement x + 2 * p + 1 = omega arith in
+-- the numbers of a cell fit
+pub numbers-fit : (b : Benchmarks) → Lawful b → (r a p standing : ℕ) → r < 14 → a < 2 → p < 2 → standing ≤ standingMost
+    → Fits (cellNumbers b a standing (cell r p))
+unfolding cellNumbers
+numbers-fit b h r a p standing hr ha hp hs =
+    let j : 4 * r + 2 * a + p < 56 = omega arith in
+    let low : 2 * (4 * r + 2 * a + p) ≡ 8 * r + 4 * a + 2 * p + 0 = omega arith in
+    let up : 2 * (4 * r + 2 * a + p) + 1 ≡ 8 * r + 4 * a + 2 * p + 1 = omega arith in
     record {
-      ordered =
-          subst₂ (λ (i k : ℕ). getD (b .charges) i 0 ≤ getD (b .charges) k 0) low up (h .nil-at-most-m (4 * r + 2 * arrangement x + p) j);
-      upper-most = h .charges-most (8 * r + 4 * arrangement x + 2 * p + 1);
-      m-most = h .level-most (arrangement x);
+      ordered = subst₂ (λ (i k : ℕ). getD (b .charges) i 0 ≤ getD (b .charges) k 0) low up (h .nil-at-most-m (4 * r + 2 * a + p) j);
+      upper-most = h .charges-most (8 * r + 4 * a + 2 * p + 1);
+      m-most = h .level-most a;
       months-most = h .months-most;
       days-most = h .days-most;
+      standing-most = hs;
+      peak-most = omega arith;
     }
+
+pub peak-of : (b : Benchmarks) (a standing : ℕ) (c : Cell) → cellNumbers b a standing c .peak ≡ peakShare
+unfolding cellNumbers
+peak-of b a standing c = refl
+
+-- what the code reads is the numbers of the cell
+pub numbers-are : (b : Benchmarks) (r a p standing at : ℕ) (e : CellNumbers) → at ≡ figureIndex r a p 0
+    → e .lower ≡ getD (b .charges) at 0 → e .upper ≡ getD (b .charges) (at + 1) 0 → e .m ≡ getD (b .levels) a 0
+    → e .months ≡ b .months → e .days ≡ b .days → e .standing ≡ standing → e .peak ≡ peakShare → e ≡ cellNumbers b a standing (cell r p)
+unfolding cellNumbers
+numbers-are b r a p standing at e is low up m t d s k =
+    let next : at + 1 ≡ figureIndex r a p 1 = omega arith in
+    let l : e .lower ≡ getD (b .charges) (figureIndex r a p 0) 0 = low ∙ ap (λ (i : ℕ). getD (b .charges) i 0) is in
+    let u : e .upper ≡ getD (b .charges) (figureIndex r a p 1) 0 = up ∙ ap (λ (i : ℕ). getD (b .charges) i 0) next in
+    λ i. record { lower = l i; upper = u i; m = m i; months = t i; days = d i; standing = s i; peak = k i }
+
+-- the numbers of a tariff's cell, as the code reads them
+module _ (b : Benchmarks) (x : Tariff) (h : Lawful b) (v : validTariff x ≡ true) (r p a : ℕ) (hr : r < 14) (hp : p < 2) (ia : a ≡ arrangement x)
+    (e : CellNumbers) (is : e ≡ cellNumbers b a (x .standing) (cell r p)) where
+  pub tariff-numbers : e ≡ tariffNumbers b x (cell r p)
+  tariff-numbers = is ∙ ap (λ (i : ℕ). cellNumbers b i (x .standing) (cell r p)) ia
+
+  pub tariff-fits : Fits e
+  tariff-fits = subst Fits (sym tariff-numbers) (numbers-fit b h r (arrangement x) p (x .standing) hr (arrangement-small x) hp (valid-standing x v))
+
+  pub tariff-cornered : (m : ℕ) (k : Corners) → m ≡ getD (b .levels) a 0 → Cornered peakShare x m k → Cornered (e .peak) x (e .m) k
+  unfolding cellNumbers
+  tariff-cornered m k l c = subst (λ (d : CellNumbers). Cornered (d .peak) x (d .m) k) (sym is) (subst (λ (n : ℕ). Cornered peakShare x n k) l c)
 
 module _ (b : Benchmarks) (x : Tariff) where
   -- no hit at a cell that is not offered
@@ -87,11 +105,12 @@ module _ (b : Benchmarks) (x : Tariff) where
   pub not-method : (r p : ℕ) → p < 2 → bit (x .methods) p ≡ false → exceedsAt b x (2 * r + p) ≡ false
   not-method r p h e = not-offered r p h (method-off r p e)
 
-  -- nor at one within the cap
-  pub within-cell : (r p : ℕ) → p < 2 → Judges (terms b x (cell r p)) x Within → exceedsAt b x (2 * r + p) ≡ false
+  -- at one that is, the decision
+  pub in-cell : (r p : ℕ) → p < 2 → bit (x .regions) r ≡ true → bit (x .methods) p ≡ true → (e : CellNumbers) → e ≡ tariffNumbers b x (cell r p)
+      → (t : Bool) → t ≡ decided (exceeds? e x) → exceedsAt b x (2 * r + p) ≡ t
   unfolding exceedsAt
-  within-cell r p h j =
-      rw (cell-at-rank (cell r p) h, no-decided (exceeds? (terms b x (cell r p)) x) j) (and-false (offered x (cell r p)))
+  in-cell r p h er ep e is t d =
+      rw (cell-at-rank (cell r p) h, cell-on r p er ep) (ap (λ (y : CellNumbers). decided (exceeds? y x)) (sym is) ∙ sym d)
 
   -- one cell further
   pub passed : (r p : ℕ) → firstBelow b x (2 * r + p) ≡ none → exceedsAt b x (2 * r + p) ≡ false → firstBelow b x (2 * r + (p + 1)) ≡ none
@@ -114,31 +133,19 @@ module _ (b : Benchmarks) (x : Tariff) where
   walked r h k e = let n : 2 * r ≡ 28 = omega arith in rw n at e
 
   -- or a cell that exceeds
-  pub over-cell : (r p month d : ℕ) → r < 14 → p < 2 → bit (x .regions) r ≡ true → bit (x .methods) p ≡ true → firstBelow b x (2 * r + p) ≡ none
-      → Judges (terms b x (cell r p)) x (Over month d) → Finds b x (found.Over r p month d)
-  unfolding firstOver exceedsAt
-  over-cell r p month d hr hp er ep e j =
-      let c : cellAt (2 * r + p) ≡ cell r p = cell-at-rank (cell r p) hp in
-      let hit : exceedsAt b x (2 * r + p) ≡ true = rw (c, cell-on r p er ep) (yes-decided (exceeds? (terms b x (cell r p)) x) (j .0)) in
-      let here : firstBelow b x (suc (2 * r + p)) ≡ some (cell r p) = below-here b x (2 * r + p) e hit ∙ ap some c in
+  pub over-cell : (r p : ℕ) → r < 14 → p < 2 → firstBelow b x (2 * r + p) ≡ none → exceedsAt b x (2 * r + p) ≡ true → Finds b x (found.Over r p)
+  unfolding firstOver
+  over-cell r p hr hp e hit =
+      let here : firstBelow b x (suc (2 * r + p)) ≡ some (cell r p) = below-here b x (2 * r + p) e hit ∙ ap some (cell-at-rank (cell r p) hp) in
       let n : (27 - (2 * r + p)) + suc (2 * r + p) ≡ 28 = omega arith in
-      (rw n at (below-later b x (27 - (2 * r + p)) (suc (2 * r + p)) (cell r p) here), j .1, j .2)
+      rw n at (below-later b x (27 - (2 * r + p)) (suc (2 * r + p)) (cell r p) here)
 
-terms-months : (b : Benchmarks) (x : Tariff) (c : Cell) → terms b x c .months ≡ b .months
-unfolding terms
-terms-months b x c = refl
+  -- the verdict by what the walk found
+  pub opens-verdict : (n : ℕ) → Finds b x found.Nowhere → n ≡ cellCount x → opens n ≡ verdict b x
+  unfolding verdict
+  opens-verdict n f e = ap opens e ∙ sym (ap (verdictAt b x) f)
 
--- the verdict by what the walk found
-pub opens-verdict : (b : Benchmarks) (x : Tariff) (t n : ℕ) → Finds b x found.Nowhere → n ≡ cellCount x → verdictOf t (outcome.Opens n) ≡ verdict b x
-unfolding verdict
-opens-verdict b x t n f e = ap opens e ∙ sym (ap (verdictAt b x) f)
-
-pub over-verdict : (b : Benchmarks) (x : Tariff) (r p month d : ℕ) → Finds b x (found.Over r p month d)
-    → verdictOf (b .months) (outcome.Over r p month d) ≡ verdict b x
-unfolding verdict
-over-verdict b x r p month d f =
-    same-months (f .1) ∙ ap (over (cell r p) (worstMonths (terms b x (cell r p)) x)) (f .2) ∙ sym (ap (verdictAt b x) (f .0))
-  where
-    same-months : month ≡ worstMonth (terms b x (cell r p)) x
-        → over (cell r p) (replicate (b .months) month) (pos d) ≡ over (cell r p) (worstMonths (terms b x (cell r p)) x) (pos d)
-    same-months e = ap (λ (w : ℕ). over (cell r p) (replicate (b .months) w) (pos d)) e ∙ ap (λ (t : ℕ). over (cell r p) (replicate t (worstMonth (terms b x (cell r p)) x)) (pos d)) (sym (terms-months b x (cell r p)))
+  pub over-verdict : (r p : ℕ) (w : WorstCase) → Finds b x (found.Over r p) → Carries (tariffNumbers b x (cell r p)) x w
+      → (over (cell r p) (take (b .months) (w .months)) (pos (w .excess)) ≡ verdict b x) × ((i : ℕ) → b .months ≤ i → getD (w .months) i 0 ≡ 0)
+  unfolding verdict cellNumbers
+  over-verdict r p w f h = (ap₂ (over (cell r p)) (h .months) (h .excess-is) ∙ sym (ap (verdictAt b x) f), h .rest)

@@ -11,12 +11,12 @@ use lib.Dec.{eqb}
 use lib.IntN.{ℤ}
 use lib.ListN.{getD}
 use Rattle.benchmark.specs.declared.Benchmarks.{Benchmarks}
-use Rattle.benchmark.specs.Benchmark.{place}
+use Rattle.benchmark.specs.Benchmark.{figureIndex}
 use Rattle.tariff.specs.declared.Tariff.{Tariff}
 use Rattle.charge.specs.Charge.{arrangement}
-use Rattle.cap.specs.declared.Terms.{Terms}
+use Rattle.cap.specs.declared.CellNumbers.{CellNumbers}
 use Rattle.cap.specs.Cap.{excess, Exceeds, worstMonths}
-use Rattle.cap.specs.Decided.{exceeds?}
+use Rattle.cap.specs.Decided.{exceeds?, decided}
 
 -- a cell: "one of its offered regions with one of its offered methods"
 pub record Cell : Type 0 where
@@ -36,20 +36,30 @@ offered x c = bit (x .regions) (c .region) && bit (x .methods) (c .method)
 abbrev pub Offered : Tariff → Cell → Type 0
 Offered x c = (c .region < 14) × (c .method < 2) × (offered x c ≡ true)
 
--- the numbers of a tariff's cell: kind 1 is held to arrangement 0, kinds 2 and 3 to arrangement 1
-unfoldable pub terms : Benchmarks → Tariff → Cell → Terms
-terms b x c =
+-- the peak share of Economy 7, in percent (28AD.31)
+abbrev pub peakShare : ℕ
+peakShare = 58
+
+-- the numbers of a cell in an arrangement, with the figures of a sheet, for a standing charge
+unfoldable pub cellNumbers : Benchmarks → ℕ → ℕ → Cell → CellNumbers
+cellNumbers b arrangement standing c =
     record {
-      lower = getD (b .charges) (place (c .region) (arrangement x) (c .method) 0) 0;
-      upper = getD (b .charges) (place (c .region) (arrangement x) (c .method) 1) 0;
-      m = getD (b .levels) (arrangement x) 0;
+      lower = getD (b .charges) (figureIndex (c .region) arrangement (c .method) 0) 0;
+      upper = getD (b .charges) (figureIndex (c .region) arrangement (c .method) 1) 0;
+      m = getD (b .levels) arrangement 0;
       months = b .months;
       days = b .days;
+      standing = standing;
+      peak = peakShare;
     }
+
+-- those of a tariff's cell: kind 1 is held to arrangement 0, kinds 2 and 3 to arrangement 1
+abbrev pub tariffNumbers : Benchmarks → Tariff → Cell → CellNumbers
+tariffNumbers b x c = cellNumbers b (arrangement x) (x .standing) c
 
 -- "A tariff exceeds in a cell"
 abbrev pub ExceedsIn : Benchmarks → Tariff → Cell → Type 0
-ExceedsIn b x c = Exceeds (terms b x c) x
+ExceedsIn b x c = Exceeds (tariffNumbers b x c) x
 
 -- "Cells are taken by region, then method, both rising": one cell before another, and cell n in this order
 -- (proofs/Meaning.antt, `in-order`)
@@ -59,13 +69,9 @@ Before d c = (d .region < c .region) ⊎ ((d .region ≡ c .region) × (d .metho
 abbrev pub cellAt : ℕ → Cell
 cellAt n = record { region = n / 2; method = n % 2 }
 
-abbrev pub decided : {P : Type 0} → Dec P → Bool
-decided (yes p) = true
-decided (no p) = false
-
 -- cell n is offered and exceeds
 unfoldable pub exceedsAt : Benchmarks → Tariff → ℕ → Bool
-exceedsAt b x n = offered x (cellAt n) && decided (exceeds? (terms b x (cellAt n)) x)
+exceedsAt b x n = offered x (cellAt n) && decided (exceeds? (tariffNumbers b x (cellAt n)) x)
 
 -- the cell found before, or else this one where it is a hit
 abbrev pub firstOf : Option Cell → Bool → Cell → Option Cell
@@ -94,7 +100,7 @@ pub data Verdict : Type 0 where
 
 abbrev pub verdictAt : Benchmarks → Tariff → Option Cell → Verdict
 verdictAt b x none = opens (cellCount x)
-verdictAt b x (some c) = over c (worstMonths (terms b x c) x) (excess (terms b x c) x (worstMonths (terms b x c) x))
+verdictAt b x (some c) = over c (worstMonths (tariffNumbers b x c) x) (excess (tariffNumbers b x c) x (worstMonths (tariffNumbers b x c) x))
 
 unfoldable pub verdict : Benchmarks → Tariff → Verdict
 verdict b x = verdictAt b x (firstOver b x)

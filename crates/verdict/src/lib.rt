@@ -1,31 +1,41 @@
 // OPEN's walk over the offered cells, and its verdict.
-// Promise: `verdict_of` answers the number of cells of a tariff that exceeds nowhere, or the first cell that exceeds, the worst
-// month there and its excess. Each offered cell is looked at once. What the layer above may use: `verdict`, `firstOver`,
-// `Offered`, `ExceedsIn` of specs/Cells.antt, and the theorems in proofs/Meaning.antt and proofs/Count.antt.
+// Promise: `verdict_of` answers the number of cells of a tariff that exceeds nowhere, or the first cell that exceeds, with the months
+// of answer 11 and their excess. Each offered cell is looked at once. What the layer above may use: `verdict`, `firstOver`,
+// `Offered`, `ExceedsIn`, `cellNumbers` of specs/Cells.antt, and the theorems in proofs/Meaning.antt and proofs/Count.antt.
 ghost use mathlib.Core.Path.{_≡_};
 ghost use mathlib.Core.Bool.{true};
-ghost use Prim.Native.Nat.{_+_, _<_};
+ghost use Prim.Native.Nat.{_<_, _≤_};
 ghost use lib.ListN.{length, getD};
+ghost use Rattle.benchmark.specs.declared.Benchmarks.{Benchmarks};
 ghost use Rattle.benchmark.specs.Lawful.{Lawful};
-ghost use Rattle.tariff.specs.Tariff.{validTariff};
+ghost use Rattle.tariff.specs.Tariff.{standingMost, validTariff};
 ghost use Rattle.charge.specs.Charge.{arrangement};
-ghost use Rattle.verdict.specs.Cells.{bit, cellCount, verdict};
-ghost use Rattle.verdict.specs.Found.{Finds, verdictOf};
+ghost use Rattle.cap.specs.Corners.{Fits};
+ghost use Rattle.verdict.specs.Cells.{cell, bit, cellNumbers, cellCount};
+ghost use Rattle.verdict.specs.Rulings.{Finds, Rules};
 use benchmark::Benchmarks;
-use cap::Judged;
-use cap::Terms;
+use cap::CellNumbers;
 use tariff::Tariff;
 
-// The first cell that exceeds, as region and method, with the worst month there and its excess.
+// The peak share of Economy 7.
+const PEAK_SHARE: u32 = 58;
+
+// The first cell that exceeds, as region and method.
 pub enum Found {
     Nowhere,
-    Over(u32, u32, u32, u64),
+    Over(u32, u32),
 }
 
-// The number of cells, or the first cell that exceeds, the worst month there and its excess.
+// The number of cells, or the first cell that exceeds and the excess there.
 pub enum Outcome {
     Opens(u32),
-    Over(u32, u32, u32, u64),
+    Over(u32, u32, u64),
+}
+
+// An outcome, and the months of answer 11 in the first t places.
+pub struct Ruling {
+    pub outcome: Outcome,
+    pub months: [u32; 12],
 }
 
 fn wide(x: u32) -> u64
@@ -56,18 +66,55 @@ pub fn cell_count(x: Tariff) -> u32
     u32::count_ones(x.regions) * u32::count_ones(x.methods)
 }
 
-// The numbers of the cell whose charge at nil stands at a place of the 112.
-fn terms_at(charges: &[u32], at: usize, m: u32, months: u32, days: u32) -> Terms
-    requires { ⌜ at + 1 < length (now charges) ⌝ }
-    ensures { λ r. ⌜ (r .lower ≡ getD (now (charges .entry)) at 0) × (r .upper ≡ getD (now (charges .entry)) (at + 1) 0) × (r .m ≡ m) × (r .months ≡ months) × (r .days ≡ days) ⌝ }
+// The numbers of a cell in an arrangement, for a standing charge, from the 112 figures, m, t and the days.
+fn cell_numbers(
+    charges: &[u32],
+    m: u32,
+    months: u32,
+    days: u32,
+    arrangement: usize,
+    standing: u32,
+    region: u32,
+    method: u32,
+) -> CellNumbers
+    requires { ⌜ (length (now charges) ≡ 112) × (arrangement < 2) × (region < 14) × (method < 2) ⌝ }
+    ensures { λ r. ⌜ ((b : Benchmarks) → b .charges ≡ now (charges .entry) → getD (b .levels) arrangement 0 ≡ m → b .months ≡ months → b .days ≡ days → r ≡ cellNumbers b arrangement standing (cell region method)) ⌝ }
 {
-    Terms {
+    let at = benchmark::figure_index(region as usize, arrangement, method as usize, 0);
+    CellNumbers {
         lower: wide(charges[at]),
         upper: wide(charges[at + 1]),
         m: wide(m),
         months: wide(months),
         days,
+        standing,
+        peak: PEAK_SHARE,
     }
+}
+
+// The numbers of a cell, from the figures of the sheet in force.
+pub fn numbers_in(
+    b: Benchmarks,
+    arrangement: usize,
+    standing: u32,
+    region: u32,
+    method: u32,
+) -> CellNumbers
+    requires { ⌜ Lawful b × (arrangement < 2) × (standing ≤ standingMost) × (region < 14) × (method < 2) ⌝ }
+    ensures { λ r. ⌜ (r ≡ cellNumbers b arrangement standing (cell region method)) × Fits r ⌝ }
+{
+    let charges = b.charges;
+    let levels = b.levels;
+    cell_numbers(
+        &charges,
+        levels[arrangement],
+        b.months,
+        b.days,
+        arrangement,
+        standing,
+        region,
+        method,
+    )
 }
 
 // The walk: by region, then method, both rising, to the first offered cell that exceeds.
@@ -79,7 +126,7 @@ pub fn first_over(b: Benchmarks, x: Tariff) -> Found
     let levels = b.levels;
     let arrangement = arrangement_of(x);
     let m = levels[arrangement];
-    let k = cap::corners_of(x, wide(m));
+    let k = cap::corners_of(x, PEAK_SHARE, wide(m));
     let mut region: u32 = 0;
     let found = 'walk: loop {
         if 14 <= region {
@@ -88,11 +135,18 @@ pub fn first_over(b: Benchmarks, x: Tariff) -> Found
         if has(x.regions, region) {
             for method in 0..2 {
                 if has(x.methods, method) {
-                    let at = 8 * (region as usize) + 4 * arrangement + 2 * (method as usize);
-                    let e = terms_at(&charges, at, m, b.months, b.days);
-                    let judged = cap::judge(x, k, e);
-                    if let Judged::Over(month, excess) = judged {
-                        break 'walk Found::Over(region, method, month, excess);
+                    let e = cell_numbers(
+                        &charges,
+                        m,
+                        b.months,
+                        b.days,
+                        arrangement,
+                        x.standing,
+                        region,
+                        method,
+                    );
+                    if cap::exceeds(x, k, e) {
+                        break 'walk Found::Over(region, method);
                     }
                 }
             }
@@ -103,15 +157,24 @@ pub fn first_over(b: Benchmarks, x: Tariff) -> Found
 }
 
 // The verdict on a tariff.
-pub fn verdict_of(b: Benchmarks, x: Tariff) -> Outcome
+pub fn verdict_of(b: Benchmarks, x: Tariff) -> Ruling
     requires { ⌜ Lawful b × (validTariff x ≡ true) ⌝ }
-    ensures { λ r. ⌜ verdictOf (b .months) r ≡ verdict b x ⌝ }
+    ensures { λ r. ⌜ Rules b x r ⌝ }
 {
     let found = first_over(b, x);
     match found {
-        Found::Nowhere => Outcome::Opens(cell_count(x)),
-        Found::Over(region, method, month, excess) => {
-            Outcome::Over(region, method, month, excess)
+        Found::Nowhere => Ruling {
+            outcome: Outcome::Opens(cell_count(x)),
+            months: [0; 12],
+        },
+        Found::Over(region, method) => {
+            let e = numbers_in(b, arrangement_of(x), x.standing, region, method);
+            let worst = cap::worst_case(x, e);
+            let months = worst.months;
+            Ruling {
+                outcome: Outcome::Over(region, method, worst.excess),
+                months,
+            }
         }
     }
 }

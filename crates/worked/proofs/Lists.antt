@@ -11,7 +11,7 @@ use Rattle.benchmark.specs.declared.Benchmarks.{Benchmarks}
 use Rattle.benchmark.specs.Benchmark.{setCheck, benchmark, wc, pc, oc, nc, paenc, headroom, panc, figure, figures, benchmarksOf}
 use Rattle.tariff.specs.declared.Tariff.{Tariff}
 use Rattle.tariff.specs.Tariff.{tariffOf, recordCheck}
-use Rattle.verdict.specs.Cells.{Cell, bit, offered, terms, Verdict, opens, verdict, verdictAt, firstOver}
+use Rattle.verdict.specs.Cells.{Cell, bit, offered, cellNumbers, Verdict, opens, verdict, verdictAt, firstOver}
 use Rattle.verdict.specs.Cells as cells
 use Rattle.book.specs.Calls.{Record, Act, SET, PUT, call, Answer, accepted, opened, refused, isAccepted, isNone}
 use Rattle.book.specs.Checks.{figuresOf, complies, verdictAnswer, setAnswer, answer}
@@ -81,7 +81,7 @@ two-calls = rw (starred .accepted, starred .records .1)
 
 quote-told : quoteOf (changed (changed fresh (SET quarter)) (PUT 7 steep)) 7 0 1 (300 ∷ 0 ∷ 0 ∷ [])
     ≡ quotation (record { charge = 24624000000000; maximum = 27970470000000 })
-unfolding quoteOf cellAllowed monthsAllowed every offered bit terms arrangement tierCharge charge maximum charged capped sum total benchmarksOf figures figure tabulate tabulateFrom benchmark wc pc oc nc paenc headroom panc indexed round sheetS times periodDays monthBegins lengthAt monthLength leapYear
+unfolding quoteOf cellAllowed monthsAllowed every offered bit cellNumbers arrangement tierCharge charge maximum charged capped sum total benchmarksOf figures figure tabulate tabulateFrom benchmark wc pc oc nc paenc headroom panc indexed round sheetS times periodDays monthBegins lengthAt monthLength leapYear
 quote-told = refl
 
 -- THE LISTS

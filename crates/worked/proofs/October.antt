@@ -1,12 +1,12 @@
 -- Sheet S for October 2023 alone: it is accepted, and two tariffs under it.
 -- Assumes nothing.
 use mathlib.Core.Path.{_≡_, refl}
+use mathlib.Core.Bool.{true}
 use mathlib.Core.List.{List, [], _∷_}
-use Prim.Native.Nat.{ℕ, suc, _<_}
+use Prim.Native.Nat.{ℕ}
 use lib.Count.{ones, onesIn}
-use lib.Dec.{lit<}
 use lib.IntN.{pos}
-use lib.ListN.{length}
+use Rattle.laws.proofs.Pieces.{scan}
 use Rattle.laws.specs.Notions.{every, sum, total, tabulate, tabulateFrom}
 use Rattle.calendar.specs.Calendar.{periodDays, periodInRange, monthBegins, lengthAt, monthLength, leapYear}
 use Rattle.sheet.specs.Sheet.{rangeOf, fieldInRange, fieldsInRange, round, indexed, fourFit, paacFits, termsFit}
@@ -14,10 +14,11 @@ use Rattle.benchmark.specs.declared.Benchmarks.{Benchmarks}
 use Rattle.benchmark.specs.Benchmark.{benchmark, wc, pc, oc, nc, paenc, headroom, panc, figure, figures, ordered, setCheck, benchmarksOf}
 use Rattle.tariff.specs.Tariff.{tariffOf, recordCheck, validTariff, validKind, singleRegister, economy7, multiRegister, ratesWithin, zeroFrom, within, rising}
 use Rattle.charge.specs.Charge.{arrangement, tierCharge, weighted, monthCharge, charge}
-use Rattle.charge.specs.Tiers.{Rising, hundredths, ends}
+use Rattle.charge.specs.Tiers.{tiersOf}
 use Rattle.cap.specs.Cap.{maximum, charged, capped, excess}
-use Rattle.cap.specs.Judged.{scan}
-use Rattle.verdict.specs.Cells.{bit, offered, terms, cellCount, Verdict, opens, over, verdict}
+use Rattle.cap.specs.Corners.{cornersTo}
+use Rattle.cap.proofs.Scanned.{scannedMonths}
+use Rattle.verdict.specs.Cells.{bit, offered, cellNumbers, cellCount, Verdict, opens, over, verdict}
 use Rattle.verdict.proofs.Scanned.{scannedBelow, scannedVerdict}
 use Rattle.reference.proofs.Scanning.{by-scan}
 use Rattle.reference.specs.SheetS.{times, sheetS, flat}
@@ -42,33 +43,32 @@ unfolding benchmarksOf figures figure tabulate tabulateFrom benchmark wc pc oc n
 is-known = refl
 
 pub october-accepted : setCheck sheetS octoberPeriod ≡ Pass
-unfolding setCheck fieldsInRange fieldInRange rangeOf every termsFit fourFit paacFits ordered periodInRange figures figure tabulate tabulateFrom benchmark wc pc oc nc paenc headroom panc indexed round sheetS times periodDays monthBegins lengthAt monthLength leapYear hundredths ends Rising recordCheck validTariff validKind singleRegister economy7 multiRegister ratesWithin zeroFrom within rising
+unfolding setCheck fieldsInRange fieldInRange rangeOf every termsFit fourFit paacFits ordered periodInRange figures figure tabulate tabulateFrom benchmark wc pc oc nc paenc headroom panc indexed round sheetS times periodDays monthBegins lengthAt monthLength leapYear recordCheck validTariff validKind singleRegister economy7 multiRegister ratesWithin zeroFrom within rising
 october-accepted = refl
 
-on-known : (x : List ℕ) (v : Verdict) → length (hundredths (tariffOf x)) ≡ suc (length (ends (tariffOf x))) → Rising 0 (ends (tariffOf x)) 10000
-    → scannedVerdict known (tariffOf x) ≡ v → verdict (benchmarksOf sheetS octoberPeriod) (tariffOf x) ≡ v
-on-known x v = by-scan (benchmarksOf sheetS octoberPeriod) known is-known (tariffOf x) v
+on-known : (x : List ℕ) (v : Verdict) → validTariff (tariffOf x) ≡ true → scannedVerdict known (tariffOf x) ≡ v → verdict (benchmarksOf sheetS octoberPeriod) (tariffOf x) ≡ v
+on-known x v = by-scan (benchmarksOf sheetS octoberPeriod) known is-known x v
 
 low-computed : scannedVerdict known (tariffOf (flat 23000 18000)) ≡ opens 28
-unfolding scannedVerdict scannedBelow offered bit terms arrangement scan tierCharge weighted monthCharge charge maximum charged capped excess sum total ends cellCount ones onesIn known times
+unfolding scannedVerdict scannedBelow offered bit cellNumbers arrangement scannedMonths cornersTo tiersOf scan tierCharge weighted monthCharge charge maximum charged capped excess sum total cellCount ones onesIn known times
 low-computed = refl
 
 close-computed : scannedVerdict known (tariffOf (flat 23960 18000)) ≡ over firstOther (0 ∷ []) (pos 28686000000)
-unfolding scannedVerdict scannedBelow offered bit terms arrangement scan tierCharge weighted monthCharge charge maximum charged capped excess sum total ends cellCount ones onesIn known times
+unfolding scannedVerdict scannedBelow offered bit cellNumbers arrangement scannedMonths cornersTo tiersOf scan tierCharge weighted monthCharge charge maximum charged capped excess sum total cellCount ones onesIn known times
 close-computed = refl
 
 pub october-low : verdict (benchmarksOf sheetS octoberPeriod) (tariffOf (flat 23000 18000)) ≡ opens 28
-unfolding hundredths ends Rising
-october-low = on-known (flat 23000 18000) _ refl (lit< tt) low-computed
+unfolding validTariff validKind singleRegister economy7 multiRegister ratesWithin zeroFrom within rising every
+october-low = on-known (flat 23000 18000) _ refl low-computed
 
 pub october-close : verdict (benchmarksOf sheetS octoberPeriod) (tariffOf (flat 23960 18000)) ≡ over firstOther (0 ∷ []) (pos 28686000000)
-unfolding hundredths ends Rising
-october-close = on-known (flat 23960 18000) _ refl (lit< tt) close-computed
+unfolding validTariff validKind singleRegister economy7 multiRegister ratesWithin zeroFrom within rising every
+october-close = on-known (flat 23960 18000) _ refl close-computed
 
 pub close-record : recordCheck (flat 23960 18000) ≡ Pass
-unfolding setCheck fieldsInRange fieldInRange rangeOf every termsFit fourFit paacFits ordered periodInRange figures figure tabulate tabulateFrom benchmark wc pc oc nc paenc headroom panc indexed round sheetS times periodDays monthBegins lengthAt monthLength leapYear hundredths ends Rising recordCheck validTariff validKind singleRegister economy7 multiRegister ratesWithin zeroFrom within rising
+unfolding setCheck fieldsInRange fieldInRange rangeOf every termsFit fourFit paacFits ordered periodInRange figures figure tabulate tabulateFrom benchmark wc pc oc nc paenc headroom panc indexed round sheetS times periodDays monthBegins lengthAt monthLength leapYear recordCheck validTariff validKind singleRegister economy7 multiRegister ratesWithin zeroFrom within rising
 close-record = refl
 
 pub high-record : recordCheck (flat 23961 18000) ≡ Pass
-unfolding setCheck fieldsInRange fieldInRange rangeOf every termsFit fourFit paacFits ordered periodInRange figures figure tabulate tabulateFrom benchmark wc pc oc nc paenc headroom panc indexed round sheetS times periodDays monthBegins lengthAt monthLength leapYear hundredths ends Rising recordCheck validTariff validKind singleRegister economy7 multiRegister ratesWithin zeroFrom within rising
+unfolding setCheck fieldsInRange fieldInRange rangeOf every termsFit fourFit paacFits ordered periodInRange figures figure tabulate tabulateFrom benchmark wc pc oc nc paenc headroom panc indexed round sheetS times periodDays monthBegins lengthAt monthLength leapYear recordCheck validTariff validKind singleRegister economy7 multiRegister ratesWithin zeroFrom within rising
 high-record = refl

@@ -7,7 +7,7 @@ use Rattle.sheet.specs.Sheet.{round, indexed}
 use Rattle.benchmark.specs.Benchmark.{benchmark, wc, pc, oc, nc, paenc, headroom, panc, figure, figures, benchmarksOf}
 use Rattle.charge.specs.Charge.{arrangement, tierCharge, weighted, charge}
 use Rattle.cap.specs.Cap.{maximum, charged, capped}
-use Rattle.verdict.specs.Cells.{bit, offered, terms}
+use Rattle.verdict.specs.Cells.{bit, offered, cellNumbers}
 use Rattle.book.specs.declared.Book.{Book}
 use Rattle.book.specs.Calls.{sheetAt, SET, PUT}
 use Rattle.book.specs.Book.{fresh, bookAfter, step, changed}
@@ -32,7 +32,7 @@ unfolding bookAfter step
 after-one = rw (unlike .records .2)
 
 computed : Queried two bare
-unfolding benchmarkOf maximumOf quoteOf cellAllowed monthsAllowed every offered bit terms arrangement tierCharge weighted charge maximum charged capped sum total benchmarksOf figures figure tabulate tabulateFrom benchmark wc pc oc nc paenc headroom panc indexed round sheetU networks periodDays monthBegins lengthAt monthLength leapYear
+unfolding benchmarkOf maximumOf quoteOf cellAllowed monthsAllowed every offered bit cellNumbers arrangement tierCharge weighted charge maximum charged capped sum total benchmarksOf figures figure tabulate tabulateFrom benchmark wc pc oc nc paenc headroom panc indexed round sheetU networks periodDays monthBegins lengthAt monthLength leapYear
 computed =
     record {
       benchmark-refused = (refl, refl);

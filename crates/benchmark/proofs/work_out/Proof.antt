@@ -16,7 +16,8 @@ use Rattle.calendar.specs.Calendar.{periodInRange}
 use Rattle.sheet.specs.Sheet.{fieldsInRange, termsFit}
 use Rattle.sheet.specs.Ranged.{Ranged, Indexed}
 use Rattle.benchmark.specs.Benchmark.{figures, ordered, benchmarksOf}
-use Rattle.benchmark.proofs.Checks.{unless-passes, first-refuses, second-refuses, third-refuses, fourth-refuses, fifth-answers, answers-refusal, answers-pass}
+use Rattle.refusal.proofs.Checks.{unless-passes}
+use Rattle.benchmark.proofs.Checks.{first-refuses, second-refuses, third-refuses, fourth-refuses, fifth-answers, answers-refusal, answers-pass}
 use Rattle.benchmark.proofs.work_out.Statement.{statement}
 use Rattle.benchmark.proofs.work_out.Tie as tie
 

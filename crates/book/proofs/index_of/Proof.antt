@@ -1,11 +1,11 @@
--- `book::index_of` meets its contract: a code that passes is 1 to 32.
+-- `book::index_of` meets its contract: a code that unless-passes is 1 to 32.
 -- Assumes nothing.
 use mathlib.Core.Path.{_≡_, sym, _∙_, ap}
 use mathlib.Core.Bool.{true}
 use native.Mathlib.Omega.{arith}
 use Rattle.refusal.specs.declared.Check.the-variants.{Pass}
 use Rattle.refusal.specs.Checks.{unless}
-use Rattle.refusal.proofs.Laws.{passes}
+use Rattle.refusal.proofs.Checks.{unless-passes}
 use Rattle.laws.proofs.Never.{never}
 use Rattle.book.specs.Checks.{inside}
 use Rattle.book.proofs.Places.{code-range}
@@ -14,7 +14,7 @@ use Rattle.book.proofs.index_of.Statement.{statement}
 use Rattle.book.proofs.index_of.Tie as tie
 
 within : (c : tie.After-enum-told) → inside (c .before .before .before .args .code) ≡ true
-within c = passes _ 6 Pass (sym (c .before .before .code-check .ensures) ∙ c .enum-told .given .1) .0
+within c = unless-passes _ 6 Pass (sym (c .before .before .code-check .ensures) ∙ c .enum-told .given .1) .0
 
 code-check-requires : tie.Need-code-check-requires
 code-check-requires c κs = search needs

@@ -5,18 +5,21 @@ use Prim.Native.Nat.{_+_, _*_, _-_, _≤_}
 use native.Mathlib.Nat.{mul-le-mul}
 use native.Mathlib.Omega.{arith}
 use borrow.Author.Needs.{needs}
+use Rattle.charge.specs.Charge.{monthMost}
+use Rattle.charge.specs.Most.{monthChargeMost}
+use Rattle.cap.specs.Corners.{levelMost, monthChargedMost}
 use Rattle.cap.proofs.charged_up_to.Statement.{statement}
 use Rattle.cap.proofs.charged_up_to.Tie as tie
 
 -- what is charged between the corners, and that times 1,200 × m
-between : (c : tie.After-charge-for) → c .charge-for .result .0 ≤ 200000000000
+between : (c : tie.After-charge-for) → c .charge-for .result .0 ≤ monthChargeMost
 between c =
     let st = c .before in
-    let d : st .args .to - st .args .from ≤ 10000 = omega (arith, st .pre) in
+    let d : st .args .to - st .args .from ≤ monthMost = omega (arith, st .pre) in
     rw (c .charge-for .ensures) (mul-le-mul (st .pre .2) d)
 
-scaled : (c : tie.After-charge-for) → 12 * c .before .args .m * c .charge-for .result .0 ≤ 48000000000000000
-scaled c = let s : 12 * c .before .args .m ≤ 240000 = omega (arith, c .before .pre) in mul-le-mul s (between c)
+scaled : (c : tie.After-charge-for) → 12 * c .before .args .m * c .charge-for .result .0 ≤ monthChargedMost
+scaled c = let s : 12 * c .before .args .m ≤ 12 * levelMost = omega (arith, c .before .pre) in mul-le-mul s (between c)
 
 sub-result : tie.Need-sub-result
 sub-result c = search needs

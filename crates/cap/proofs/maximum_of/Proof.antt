@@ -5,11 +5,12 @@ use mathlib.Core.Path.{ap}
 use Prim.Native.Nat.{ℕ, _+_, _*_, _≤_}
 use native.Mathlib.Omega.{arith}
 use Rattle.cap.specs.Cap.{maximum}
+use Rattle.cap.specs.Corners.{benchmarkMost, totalMost}
 use borrow.Author.Needs.{needs}
 use Rattle.cap.proofs.maximum_of.Statement.{statement}
 use Rattle.cap.proofs.maximum_of.Tie as tie
 
-above : (c : tie.After-struct-known4) → c .before .before .before .allowed-for .result .0 ≤ 3456000000000000
+above : (c : tie.After-struct-known4) → c .before .before .before .allowed-for .result .0 ≤ 12 * benchmarkMost * totalMost
 above c =
     let st = c .before .before .before .before .before in
     rw (c .before .before .before .allowed-for .ensures) (used-part (st .args .e) (st .pre .0) (st .args .total .0) (st .pre .1))

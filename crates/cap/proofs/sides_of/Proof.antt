@@ -4,6 +4,7 @@ use mathlib.Core.Path.{ap, _∙_}
 use Prim.Native.Nat.{ℕ, _*_}
 use native.Mathlib.Nat.{mul-le-mul}
 use native.Mathlib.Omega.{arith}
+use Rattle.tariff.specs.Tariff.{wholeShare}
 use Rattle.cap.specs.Cap.{charged, capped, maximum}
 use Rattle.cap.proofs.Sizes.{scale-most}
 use borrow.Author.Needs.{needs}
@@ -34,7 +35,7 @@ returns c =
     let st = c .before .before .before .before .before .before .before in
     let e = st .args .e in (
       ap (λ (y : ℕ). 12 * e .m * y) (c .before .before .before .before .before .charge-of .ensures .0),
-      ap (λ (y : ℕ). 100 * y) (c .before .before .before .maximum-of .ensures .0 ∙ ap (maximum e) (c .before .before .before .before .total-of .ensures .0)),
+      ap (λ (y : ℕ). wholeShare * y) (c .before .before .before .maximum-of .ensures .0 ∙ ap (maximum e) (c .before .before .before .before .total-of .ensures .0)),
     )
 
 pub sides-of-spec : {M : Type 1} → statement M

@@ -9,6 +9,8 @@ use Rattle.laws.specs.Notions.{sum}
 use Rattle.laws.proofs.Sums.{sum-most}
 use Rattle.laws.proofs.Parts.{sum-next, sum-end}
 use borrow.Author.Needs.{needs}
+use Rattle.charge.specs.Charge.{monthMost}
+use Rattle.cap.specs.Corners.{totalMost}
 use Rattle.cap.proofs.total_of.Statement.{statement}
 use Rattle.cap.proofs.total_of.Tie as tie
 
@@ -18,8 +20,8 @@ Inv-loop months used₀ i₀ used i = (i ≤ length months) × (used + sum (drop
 abbrev μ-loop : tie.MeasureT-loop
 μ-loop months sum₀ i₀ sum i = length months - i
 
-most : (c : tie.Start Inv-loop μ-loop) → sum (c .args .months .now) ≤ 120000
-most c = omega (arith, sum-most 10000 (c .args .months .now) (c .pre .0 .1), c .pre .1)
+most : (c : tie.Start Inv-loop μ-loop) → sum (c .args .months .now) ≤ totalMost
+most c = omega (arith, sum-most monthMost (c .args .months .now) (c .pre .0 .1), c .pre .1)
 
 next : (c : tie.After-wide Inv-loop μ-loop)
     → c .before .before .before .loop .sum + c .wide .result + sum (drop (c .before .before .before .loop .i + 1) (c .before .before .before .before .before .args .months .now))

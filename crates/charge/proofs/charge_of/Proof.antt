@@ -6,76 +6,66 @@ use Prim.Native.Nat.{ℕ, _+_, _*_, _-_, _≤_}
 use native.Mathlib.Nat.{mul-le-mul}
 use native.Mathlib.Omega.{arith}
 use borrow.Author.Needs.{needs}
-use lib.ListN.{length, getD, take, drop}
+use lib.ListN.{length, getD, drop}
 use Rattle.laws.specs.Notions.{total}
 use Rattle.laws.proofs.Bounds.{total-most}
 use Rattle.laws.proofs.Parts.{total-alike, total-next, total-end}
-use Rattle.tariff.specs.declared.Tariff.{Tariff}
-use Rattle.tariff.proofs.Validity.{valid-standing}
-use Rattle.charge.specs.declared.Tiers.{Tiers}
-use Rattle.charge.specs.Charge.{tierCharge, monthCharge}
-use Rattle.charge.specs.Tiers.{Tiered}
-use Rattle.charge.proofs.Months.{charge-monthly, month-tiers, month-most}
+use Rattle.tariff.specs.Tariff.{wholeShare, standingMost}
+use Rattle.charge.specs.Charge.{monthMost, monthCharge}
+use Rattle.charge.specs.Most.{monthsMost, daysMost, monthChargeMost}
+use Rattle.charge.specs.Tiers.{byTiers}
+use Rattle.charge.proofs.Months.{charge-monthly}
+use Rattle.charge.proofs.TariffTiers.{month-tiers, tiers-most}
 use Rattle.charge.proofs.charge_of.Statement.{statement}
 use Rattle.charge.proofs.charge_of.Tie as tie
 
--- what the tiers charge for a month
-monthOf : Tiers → ℕ → ℕ
-monthOf t kwh = tierCharge 0 (take (t .n) (t .rates)) (take (t .n - 1) (t .steps)) kwh
-
-month-is : (x : Tariff) (t : Tiers) → Tiered x t → (kwh : ℕ) → monthOf t kwh ≡ monthCharge x kwh
-unfolding monthOf
-month-is x t h kwh = rw (h .rates-are, h .steps-are) (sym (month-tiers x kwh))
-
 abbrev Inv-loop : tie.InvT-loop
-Inv-loop days months tiers count sum₀ i₀ sum i =
-    (i ≤ length months) × (sum + total (monthOf tiers) (drop i months) ≡ sum₀ + total (monthOf tiers) months)
+Inv-loop standing days peak months tiers count sum₀ i₀ sum i =
+    (i ≤ length months) × (sum + total (byTiers tiers) (drop i months) ≡ sum₀ + total (byTiers tiers) months)
 
 abbrev μ-loop : tie.MeasureT-loop
-μ-loop days months tiers count sum₀ i₀ sum i = length months - i
+μ-loop standing days peak months tiers count sum₀ i₀ sum i = length months - i
 
 module _ (c : tie.After-wide Inv-loop μ-loop) where
-  standing-is : 100 * (c .wide .result * c .before .before .before .args .days)
-      ≡ 100 * (c .before .before .before .args .x .standing * c .before .before .before .args .days)
+  standing-is : wholeShare * (c .wide .result * c .before .before .before .args .days)
+      ≡ wholeShare * (c .before .before .before .args .standing * c .before .before .before .args .days)
   standing-is = rw (c .wide .ensures) refl
 
-  standing-most : c .wide .result * c .before .before .before .args .days ≤ 372000000
+  standing-most : c .wide .result * c .before .before .before .args .days ≤ standingMost * daysMost
   standing-most =
       let st = c .before .before .before in
-      rw (c .wide .ensures) (mul-le-mul (valid-standing (st .args .x) (st .pre .0)) (st .pre .1))
+      rw (c .wide .ensures) (mul-le-mul (st .pre .1) (st .pre .2))
 
-  month-at : (kwh : ℕ) → monthOf (c .before .tiers-of .result) kwh ≡ monthCharge (c .before .before .before .args .x) kwh
-  month-at = month-is (c .before .before .before .args .x) (c .before .tiers-of .result) (c .before .tiers-of .ensures)
+  month-at : (kwh : ℕ) → byTiers (c .before .tiers-of .result) kwh ≡ monthCharge (c .before .before .before .args .peak) (c .before .before .before .args .x) kwh
+  month-at kwh = let st = c .before .before .before in rw (c .before .tiers-of .ensures .0) (sym (month-tiers (st .args .peak) (st .args .x) kwh))
 
-  month-at-most : (i : ℕ) → monthOf (c .before .tiers-of .result) (getD (c .before .before .before .args .months .now) i 0) ≤ 200000000000
+  month-at-most : (i : ℕ) → byTiers (c .before .tiers-of .result) (getD (c .before .before .before .args .months .now) i 0) ≤ monthChargeMost
   month-at-most i =
-      let st = c .before .before .before in
-      let kwh = getD (st .args .months .now) i 0 in
-      rw (month-at kwh) (month-most (st .args .x) kwh (st .pre .0) (st .pre .3 i))
+      let kwh = getD (c .before .before .before .args .months .now) i 0 in
+      omega (arith, tiers-most monthMost (c .before .tiers-of .result) (c .before .tiers-of .ensures .1) kwh, c .before .before .before .pre .5 i)
 
-  months-most : total (monthOf (c .before .tiers-of .result)) (c .before .before .before .args .months .now) ≤ 2400000000000
+  months-most : total (byTiers (c .before .tiers-of .result)) (c .before .before .before .args .months .now) ≤ monthsMost * monthChargeMost
   months-most =
       let st = c .before .before .before in
-      omega (arith, total-most (monthOf (c .before .tiers-of .result)) 200000000000 (st .args .months .now) month-at-most, st .pre .2)
+      omega (arith, total-most (byTiers (c .before .tiers-of .result)) monthChargeMost (st .args .months .now) month-at-most, st .pre .4)
 
 -- one month more
 next : (c : tie.After-tier-charge Inv-loop μ-loop)
     → (let w = c .before .before .before .before in
     let lp = c .before .before .before .loop in
-    let month = monthOf (w .before .tiers-of .result) in
+    let month = byTiers (w .before .tiers-of .result) in
     let st = w .before .before .before in
-    lp .sum + c .tier-charge .result .0 + total month (drop (lp .i + 1) (st .args .months .now)) ≡ 100 * (w .wide .result * st .args .days) + total month (st .args .months .now))
-unfolding monthOf
+    lp .sum + c .tier-charge .result .0 + total month (drop (lp .i + 1) (st .args .months .now)) ≡ wholeShare * (w .wide .result * st .args .days) + total month (st .args .months .now))
 next c =
     let w = c .before .before .before .before in
     let lp = c .before .before .before .loop in
-    let month = monthOf (w .before .tiers-of .result) in
+    let month = byTiers (w .before .tiers-of .result) in
     let months = w .before .before .before .args .months .now in
     let e : c .tier-charge .result .0 ≡ month (getD months (lp .i) 0) = c .tier-charge .ensures .0 ∙ ap month (c .before .kwh-at .ensures) in
     omega (arith, e, lp .inv .1, total-next month months (lp .i) (c .before .before .loop-test .taken))
 
 tiers-of-requires : tie.Need-tiers-of-requires Inv-loop μ-loop
-tiers-of-requires c κs = c .before .pre .0
+tiers-of-requires c κs = (c .before .pre .0, c .before .pre .3)
 
 wide-requires : tie.Need-wide-requires Inv-loop μ-loop
 wide-requires c κs = search needs
@@ -95,7 +85,7 @@ kwh-at-requires c κs = search needs
 tier-charge-requires : tie.Need-tier-charge-requires Inv-loop μ-loop
 tier-charge-requires c κs =
     let t = c .before .before .before .before in
-    (t .tiers-of .ensures .sound, rw (c .kwh-at .ensures) (t .before .before .pre .3 (c .before .before .loop .i)))
+    (t .tiers-of .ensures .1, rw (c .kwh-at .ensures) (t .before .before .pre .5 (c .before .before .loop .i)))
 
 add-sum : tie.Need-add-sum Inv-loop μ-loop
 add-sum c =
@@ -118,10 +108,10 @@ returns c =
     let st = w .before .before .before in
     let lp = c .before .loop in
     let months = st .args .months .now in
-    let month = monthOf (w .before .tiers-of .result) in
+    let month = byTiers (w .before .tiers-of .result) in
     let e = total-end month months (lp .i) (c .loop-test .left) in
-    let same = total-alike month (monthCharge (st .args .x)) (month-at w) months in (
-      omega (arith, lp .inv .1, e, same, standing-is w, charge-monthly (st .args .x) (st .args .days) months),
+    let same = total-alike month (monthCharge (st .args .peak) (st .args .x)) (month-at w) months in (
+      omega (arith, lp .inv .1, e, same, standing-is w, charge-monthly (st .args .standing) (st .args .days) (st .args .peak) (st .args .x) months),
       omega (arith, lp .inv .1, e, standing-most w, months-most w),
     )
 

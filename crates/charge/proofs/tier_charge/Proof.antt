@@ -9,29 +9,27 @@ use native.Mathlib.Omega.{arith}
 use borrow.Author.Needs.{needs}
 use lib.ListN.{length, getD, take, drop}
 use Rattle.laws.proofs.Lists.{drop-take, drop-end}
-use Rattle.laws.proofs.Bounds.{take-most}
-use Rattle.charge.specs.Charge.{tierCharge}
-use Rattle.charge.specs.Tiers.{Rising}
-use Rattle.charge.proofs.TariffTiers.{charge-most}
+use Rattle.charge.specs.Charge.{monthMost, tierCharge}
+use Rattle.charge.specs.Most.{monthChargeMost}
+use Rattle.charge.specs.Tiers.{byTiers}
+use Rattle.charge.proofs.TariffTiers.{tiers-most}
 use Rattle.charge.proofs.tier_charge.Statement.{statement}
 use Rattle.charge.proofs.tier_charge.Tie as tie
 
 -- what is summed, with the charge of the tiers that are left, is the whole
 record Going (rates steps : List ℕ) (n x from sum i : ℕ) : Type 0 where
   pub below : i < n
-  pub left : Rising from (drop i (take (n - 1) steps)) 10000
   pub whole : sum + tierCharge from (drop i (take n rates)) (drop i (take (n - 1) steps)) x ≡ tierCharge 0 (take n rates) (take (n - 1) steps) x
 
 module _ (rates steps : List ℕ) (n : ℕ) (nr : n ≤ length rates) (ns : n ≤ length steps) (x : ℕ) where
   turn : (from sum i : ℕ) → Going rates steps n x from sum i → i + 1 < n
       → Going rates steps n x (getD steps i 0) (sum + getD rates i 0 * (min x (getD steps i 0) - from)) (i + 1)
-  unfolding tierCharge Rising
+  unfolding tierCharge
   turn from sum i g h =
       let es : drop i (take (n - 1) steps) ≡ getD steps i 0 ∷ drop (i + 1) (take (n - 1) steps) = drop-take steps (n - 1) i (omega arith) (omega arith) in
       let er : drop i (take n rates) ≡ getD rates i 0 ∷ drop (i + 1) (take n rates) = drop-take rates n i (omega arith) nr in
-      let l : Rising from (getD steps i 0 ∷ drop (i + 1) (take (n - 1) steps)) 10000 = rw es at (g .left) in
       let w : sum + tierCharge from (getD rates i 0 ∷ drop (i + 1) (take n rates)) (getD steps i 0 ∷ drop (i + 1) (take (n - 1) steps)) x ≡ tierCharge 0 (take n rates) (take (n - 1) steps) x = rw (er, es) at (g .whole) in
-      record { below = h; left = l .1; whole = omega (arith, w) }
+      record { below = h; whole = omega (arith, w) }
 
   last : (from sum i : ℕ) → Going rates steps n x from sum i → n ≤ i + 1
       → sum + getD rates i 0 * (x - from) ≡ tierCharge 0 (take n rates) (take (n - 1) steps) x
@@ -55,11 +53,8 @@ module _ (c : tie.Start Inv-loop μ-loop) where
   fits-steps : c .args .t .n ≤ length (c .args .t .steps)
   fits-steps = let l : length (c .args .t .steps) ≡ 4 = search needs in omega (arith, c .pre .0)
 
-  whole-most : tierCharge 0 (take (c .args .t .n) (c .args .t .rates)) (take (c .args .t .n - 1) (c .args .t .steps)) (c .args .used .0) ≤ 200000000000
-  whole-most =
-      let t = c .args .t in
-      let h = take-most 20000000 (t .n) (t .rates) (λ i k. c .pre .0 .rates i) in
-      omega (arith, charge-most 20000000 (take (t .n) (t .rates)) (take (t .n - 1) (t .steps)) 0 10000 (c .args .used .0) h (c .pre .0 .rising), c .pre .1)
+  whole-most : byTiers (c .args .t) (c .args .used .0) ≤ monthChargeMost
+  whole-most = omega (arith, tiers-most monthMost (c .args .t) (c .pre .0) (c .args .used .0), c .pre .1)
 
 -- one tier more
 next : (c : tie.After-part Inv-loop μ-loop)
@@ -83,7 +78,7 @@ end c =
     (last (st .args .t .rates) (st .args .t .steps) (st .args .t .n) (fits-rates st) (fits-steps st) (st .args .used .0) (lp .from) (lp .sum) (lp .i) (lp .inv) (c .before .loop-test .left))
 
 loop-holds : tie.Need-loop-holds Inv-loop μ-loop
-loop-holds c = record { below = omega (arith, c .before .before .pre .0 .some); left = c .before .before .pre .0 .rising; whole = rw zero-add refl }
+loop-holds c = record { below = omega (arith, c .before .before .pre .0 .some); whole = rw zero-add refl }
 
 add-loop : tie.Need-add-loop Inv-loop μ-loop
 add-loop c = omega (arith, c .before .before .before .pre .0 .few)

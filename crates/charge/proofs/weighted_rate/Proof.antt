@@ -1,5 +1,5 @@
 -- `charge::weighted_rate` meets its contract. The loop's invariant: what is added up, with the weighted rate of the registers
--- that are left, is the weighted rate of all. The shares come to 100, so it is at most a hundred times the greatest rate.
+-- that are left, is the weighted rate of all. The shares come to the whole, which bounds it.
 -- Assumes nothing.
 use mathlib.Core.Path.{_≡_, refl}
 use mathlib.Core.List.{List, [], _∷_}
@@ -10,8 +10,10 @@ use borrow.Author.Needs.{needs}
 use lib.ListN.{length, take, drop, getD}
 use Rattle.laws.proofs.Bounds.{take-most}
 use Rattle.laws.proofs.Lists.{drop-take, drop-end}
+use Rattle.tariff.specs.Tariff.{rateMost}
 use Rattle.tariff.proofs.Validity.{rates-at}
 use Rattle.charge.specs.Charge.{weighted}
+use Rattle.charge.specs.Most.{scaledRateMost}
 use Rattle.charge.proofs.Weighted.{weighted-most}
 use Rattle.charge.proofs.weighted_rate.Statement.{statement}
 use Rattle.charge.proofs.weighted_rate.Tie as tie
@@ -30,12 +32,12 @@ module _ (c : tie.Start Inv-loop μ-loop) where
   fits-shares : c .args .n ≤ length (c .args .t2)
   fits-shares = let l : length (c .args .t2) ≡ 4 = search needs in omega (arith, c .pre)
 
-  whole-most : weighted (take (c .args .n) (c .args .t1)) (take (c .args .n) (c .args .t2)) ≤ 20000000
+  whole-most : weighted (take (c .args .n) (c .args .t1)) (take (c .args .n) (c .args .t2)) ≤ scaledRateMost
   whole-most =
       let rs : List ℕ = take (c .args .n) (c .args .t1) in
       let ps : List ℕ = take (c .args .n) (c .args .t2) in
-      let h = take-most 200000 (c .args .n) (c .args .t1) (λ i k. rates-at (c .args .t1) (c .pre .1) i (omega (arith, c .pre .0))) in
-      omega (arith, weighted-most 200000 rs ps h, c .pre .2)
+      let h = take-most rateMost (c .args .n) (c .args .t1) (λ i k. rates-at (c .args .t1) (c .pre .1) i (omega (arith, c .pre .0))) in
+      omega (arith, weighted-most rateMost rs ps h, c .pre .2)
 
 -- one register more
 turn : (rs ps : List ℕ) (n i w : ℕ) → n ≤ length rs → n ≤ length ps → i < n

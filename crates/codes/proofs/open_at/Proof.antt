@@ -1,21 +1,20 @@
 -- `codes::open_at` meets its contract: its checks come first; past them the place holds a valid draft and the figures are lawful, so the
--- walk's outcome is the verdict, handed on with the place opened or with 11 and its months.
+-- walk's ruling is the verdict, handed on with the place opened or with 11 and its months.
 -- Assumes nothing.
 use mathlib.Core.Path.{_≡_, refl, sym, _∙_, ap, ap₂}
-use mathlib.Core.Bool.{true, cond}
-use native.Mathlib.Omega.{arith}
-use Prim.Native.Nat.{_≤_}
+use mathlib.Core.Bool.{true}
+use lib.ListN.{take}
 use Rattle.refusal.specs.Checks.{first}
 use Rattle.tariff.specs.Tariff.{validTariff}
 use Rattle.verdict.specs.Cells.{verdict}
-use Rattle.verdict.specs.Found.{verdictOf}
+use Rattle.verdict.specs.Rulings.{verdictOf}
 use Rattle.book.specs.Checks.{verdictAnswer}
 use Rattle.book.specs.Book.{tariffIn}
 use Rattle.book.specs.Settling.{heldCheck}
 use Rattle.book.proofs.Steps.{noughts}
 use Rattle.codes.specs.declared.CodeAct.the-variants as act
 use Rattle.codes.specs.Codes.{restOn}
-use Rattle.codes.proofs.Answers.{refused-by, passed-by, open-passed, over-answer, rest-zero}
+use Rattle.codes.proofs.Answers.{refused-by, passed-by, open-passed}
 use borrow.Author.Needs.{needs}
 use Rattle.codes.proofs.open_at.Statement.{statement}
 use Rattle.codes.proofs.open_at.Tie as tie
@@ -36,17 +35,12 @@ passed c =
     let st = h .before .before .before .before in
     open-passed (st .args .code) (st .args .p) (st .args .loaded) (st .pre .1) (sym (checks h) ∙ c .enum-told .given .1)
 
--- the verdict of the walk is that on the place's tariff
-answered : (c : tie.After-verdict-of) → let st = c .before .before .before .before .before .before .before .before .before in
-    verdictAnswer (verdict (st .args .figures) (tariffIn (st .args .p))) ≡ verdictAnswer (verdictOf (st .args .figures .months) (c .verdict-of .result))
-answered c =
-    let st = c .before .before .before .before .before .before .before .before .before in
-    ap verdictAnswer (ap (verdict (st .args .figures)) (sym (c .before .tariff-in .ensures)) ∙ sym (c .verdict-of .ensures))
-
-months-most : (c : tie.After-verdict-of) → c .before .before .before .before .before .before .before .before .before .args .figures .months ≤ 12
-months-most c =
-    let t = c .before .before .before in
-    t .before .before .before .before .before .before .pre .0 (passed t .1) .months-most
+-- the walk's ruling is the verdict on the place's tariff
+ruled : (c : tie.After-verdict-of) → let a = c .before .before .before .before .before .before .before .before .before .args in
+    verdictAnswer (verdict (a .figures) (tariffIn (a .p))) ≡ verdictAnswer (verdictOf (c .verdict-of .result .outcome) (take (a .figures .months) (c .verdict-of .result .months)))
+ruled c =
+    let a = c .before .before .before .before .before .before .before .before .before .args in
+    ap verdictAnswer (ap (verdict (a .figures)) (sym (c .before .tariff-in .ensures)) ∙ sym (c .verdict-of .ensures .is-verdict))
 
 open-check-requires : tie.Need-open-check-requires
 open-check-requires c κs = search needs
@@ -90,33 +84,25 @@ enum-known-outcome c = search needs
 enum-known-outcome-2 : tie.Need-enum-known-outcome-2
 enum-known-outcome-2 c = search needs
 
-cast-equal-months : tie.Need-cast-equal-months
-cast-equal-months c = omega (arith, months-most (c .before .before .before))
-
-equal-months-requires : tie.Need-equal-months-requires
-equal-months-requires c κs = months-most (c .before .before .before)
-
 returns-2 : tie.Need-returns-2
 returns-2 c =
     let o = c .before in
     let v = o .before .before in
     let i = v .before .before in
     let t = i .before in
-    let st = t .before .before .before .before .before .before in
     passed-by _ _ _ _ _ _ (sym (checks (t .before .before)) ∙ t .enum-told .given .1)
-    (answered v ∙ ap (λ q. verdictAnswer (verdictOf (st .args .figures .months) q)) (o .outcome .given .1))
+    (ruled v ∙ ap (λ q. verdictAnswer (verdictOf q (take (t .before .before .before .before .before .before .args .figures .months) (v .verdict-of .result .months)))) (o .outcome .given .1))
     refl (i .in-state .ensures) (λ j l. noughts 12 j)
 
 returns-3 : tie.Need-returns-3
 returns-3 c =
     let o = c .before .before in
     let v = o .before .before in
-    let e = v .before .before .before in
-    let t = e .before .before .before .before .before .before .args .figures .months in
-    let g = o .outcome2 .given .0 in
-    passed-by _ _ _ _ _ _ (sym (checks (e .before .before)) ∙ e .enum-told .given .1)
-    (answered v ∙ ap (λ q. verdictAnswer (verdictOf t q)) (o .outcome2 .given .1))
-    (over-answer (g .0) (g .1 .0) t (g .1 .1 .0) (g .1 .1 .1 .0) _ (c .equal-months .ensures)) refl (rest-zero 0 0 t (g .1 .1 .0) 0 _ (c .equal-months .ensures))
+    let t = v .before .before .before in
+    let a = t .before .before .before .before .before .before .args in
+    passed-by _ _ _ _ _ _ (sym (checks (t .before .before)) ∙ t .enum-told .given .1)
+    (ruled v ∙ ap (λ q. verdictAnswer (verdictOf q (take (a .figures .months) (v .verdict-of .result .months)))) (o .outcome2 .given .1))
+    refl refl (v .verdict-of .ensures .rest)
 
 pub open-at-spec : {M : Type 1} → statement M
 open-at-spec =
@@ -135,7 +121,5 @@ open-at-spec =
     verdict-of-requires
     enum-known-outcome
     enum-known-outcome-2
-    cast-equal-months
-    equal-months-requires
     returns-2
     returns-3)

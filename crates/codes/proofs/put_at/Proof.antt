@@ -3,7 +3,7 @@
 use mathlib.Core.Path.{_≡_, sym, _∙_, ap, ap₂}
 use denote.Ref.{now}
 use Rattle.refusal.specs.Checks.{first}
-use Rattle.refusal.proofs.Laws.{first-passes}
+use Rattle.refusal.proofs.Checks.{first-passes}
 use Rattle.tariff.specs.Tariff.{recordCheck}
 use Rattle.book.specs.declared.State.the-variants.{Draft}
 use Rattle.book.specs.Book.{placeWith}

@@ -2,15 +2,16 @@
 -- Assumes nothing.
 use mathlib.Core.Path.{_≡_, sym, _∙_, ap, ap₂}
 use mathlib.Core.Bool.{true, _&&_}
-use native.Mathlib.Omega.{arith}
+use Prim.Native.Nat.{ℕ}
+use lib.ListN.{getD}
 use lib.Dec.{ltb}
 use borrow.Author.Tests.{ltb-true}
 use Rattle.refusal.specs.declared.Check.the-variants.{Pass}
 use Rattle.refusal.specs.Checks.{unless, first}
-use Rattle.refusal.proofs.Laws.{passes, first-passes}
+use Rattle.refusal.proofs.Checks.{unless-passes, first-passes}
 use Rattle.queries.specs.Queries.{benchmarkCharge, inRanges}
 use Rattle.queries.proofs.InForce.{charge-is}
-use Rattle.queries.proofs.Ranges.{within, place-below}
+use Rattle.queries.proofs.Ranges.{within}
 use Rattle.queries.proofs.Answers.{hands-on, passed-on, benchmark-answer}
 use borrow.Author.Needs.{needs}
 use Rattle.queries.proofs.benchmark.Statement.{statement}
@@ -26,7 +27,7 @@ passed : (c : tie.After-enum-told) → let a = c .before .before .before .before
     ((inRanges (a .region) (a .arrangement) (a .method) && ltb (a .level) 2) ≡ true) × (a .b .loaded ≡ true)
 passed c =
     let both = first-passes _ _ (sym (checks (c .before .before)) ∙ c .enum-told .given .1) in
-    (passes _ 13 Pass (both .0) .0, passes _ 10 Pass (both .1) .0)
+    (unless-passes _ 13 Pass (both .0) .0, unless-passes _ 10 Pass (both .1) .0)
 
 ranges-check-requires : tie.Need-ranges-check-requires
 ranges-check-requires c κs = search needs
@@ -52,44 +53,30 @@ returns c =
     let a = f .before .before .before .args in
     hands-on _ _ _ _ _ _ (benchmark-answer (a .b) (a .region) (a .arrangement) (a .method) (a .level)) (checks f) (c .before .enum-told2 .given .1) (c .refused .ensures)
 
-mul-at : tie.Need-mul-at
-mul-at c = search needs
-
-mul-at-2 : tie.Need-mul-at-2
-mul-at-2 c = search needs
-
-add-at : tie.Need-add-at
-add-at c = search needs
-
-mul-at-3 : tie.Need-mul-at-3
-mul-at-3 c = search needs
-
-add-at-2 : tie.Need-add-at-2
-add-at-2 c = search needs
-
-add-at-3 : tie.Need-add-at-3
-add-at-3 c = search needs
+figure-index-requires : tie.Need-figure-index-requires
+figure-index-requires c κs =
+    let w = within _ _ _ _ (passed (c .before .before) .0) in
+    (w .region, w .arrangement, w .method, ltb-true _ 2 (w .fourth))
 
 mul-wide : tie.Need-mul-wide
 mul-wide c = search needs
 
 array-read-wide : tie.Need-array-read-wide
-array-read-wide c =
-    let t = c .before .before in
-    let a = t .before .before .before .before .before .args in
-    omega (arith, place-below (a .region) (a .arrangement) (a .method) (a .level) (passed t .0))
+array-read-wide c = search needs
 
 wide-requires : tie.Need-wide-requires
 wide-requires c κs = search needs
 
 returns-2 : tie.Need-returns-2
 returns-2 c =
-    let t = c .before .before .before in
+    let i = c .before in
+    let t = i .before .before .before in
     let f = t .before .before in
     let st = f .before .before .before in
     let a = st .args in
     let w = within _ _ _ _ (passed t .0) in
-    ap benchmarkCharge (c .wide .ensures ∙ charge-is (a .b) (st .pre) (passed t .1) (a .region) (a .arrangement) (a .method) (a .level) (w .region) (w .arrangement) (w .method) (ltb-true (a .level) 2 (w .fourth)))
+    let read = c .wide .ensures ∙ ap (λ (k : ℕ). getD (a .b .benchmarks .charges) k 0) (i .figure-index .ensures .0) in
+    ap benchmarkCharge (read ∙ charge-is (a .b) (st .pre) (passed t .1) (a .region) (a .arrangement) (a .method) (a .level) (w .region) (w .arrangement) (w .method) (ltb-true (a .level) 2 (w .fourth)))
     ∙ passed-on _ _ _ _ (benchmark-answer (a .b) (a .region) (a .arrangement) (a .method) (a .level)) (checks f) (t .enum-told .given .1)
 
 pub benchmark-spec : {M : Type 1} → statement M
@@ -103,12 +90,7 @@ benchmark-spec =
     enum-told-2
     refused-requires
     returns
-    mul-at
-    mul-at-2
-    add-at
-    mul-at-3
-    add-at-2
-    add-at-3
+    figure-index-requires
     mul-wide
     array-read-wide
     wide-requires

@@ -3,15 +3,16 @@
 use mathlib.Core.Path.{_≡_, sym, _∙_, ap, ap₂}
 use mathlib.Core.Bool.{true, _&&_}
 use Prim.Native.Nat.{ℕ, _*_}
+use native.Mathlib.Omega.{arith}
 use lib.Dec.{leb}
 use Rattle.refusal.specs.declared.Check.the-variants.{Pass}
 use Rattle.refusal.specs.Checks.{unless, first}
-use Rattle.refusal.proofs.Laws.{passes, first-passes}
-use Rattle.cap.specs.declared.Terms.{Terms}
+use Rattle.refusal.proofs.Checks.{unless-passes, first-passes}
+use Rattle.cap.specs.declared.CellNumbers.{CellNumbers}
 use Rattle.cap.specs.Cap.{maximum}
-use Rattle.stands.proofs.InForce.{figures-lawful}
+use Rattle.stands.proofs.InForce.{figures-are, figures-lawful}
 use Rattle.queries.specs.Queries.{Telling, maximumCharge, inRanges}
-use Rattle.queries.proofs.InForce.{terms-told}
+use Rattle.verdict.specs.Cells.{cell, cellNumbers}
 use Rattle.queries.proofs.Ranges.{within, total-most}
 use Rattle.queries.proofs.Answers.{hands-on, passed-on, maximum-answer}
 use borrow.Author.Needs.{needs}
@@ -28,7 +29,7 @@ passed : (c : tie.After-enum-told) → let a = c .before .before .before .before
     ((inRanges (a .region) (a .arrangement) (a .method) && leb (a .total) 120000) ≡ true) × (a .b .loaded ≡ true)
 passed c =
     let both = first-passes _ _ (sym (checks (c .before .before)) ∙ c .enum-told .given .1) in
-    (passes _ 13 Pass (both .0) .0, passes _ 10 Pass (both .1) .0)
+    (unless-passes _ 13 Pass (both .0) .0, unless-passes _ 10 Pass (both .1) .0)
 
 ranges-check-requires : tie.Need-ranges-check-requires
 ranges-check-requires c κs = search needs
@@ -54,12 +55,12 @@ returns c =
     let a = f .before .before .before .args in
     hands-on _ _ _ _ _ _ (maximum-answer (a .b) (a .region) (a .arrangement) (a .method) (a .total)) (checks f) (c .before .enum-told2 .given .1) (c .refused .ensures)
 
-terms-in-requires : tie.Need-terms-in-requires
-terms-in-requires c κs =
+numbers-in-requires : tie.Need-numbers-in-requires
+numbers-in-requires c κs =
     let t = c .before in
     let st = t .before .before .before .before .before in
     let w = within _ _ _ _ (passed t .0) in
-    (figures-lawful (st .args .b) (st .pre) (passed t .1), w .region, w .arrangement, w .method)
+    (figures-lawful (st .args .b) (st .pre) (passed t .1), w .arrangement, omega arith, w .region, w .method)
 
 wide-requires : tie.Need-wide-requires
 wide-requires c κs = search needs
@@ -68,7 +69,7 @@ maximum-of-requires : tie.Need-maximum-of-requires
 maximum-of-requires c κs =
     let t = c .before .before .before in
     let a = t .before .before .before .before .before .args in
-    (c .before .terms-in .ensures .1, rw (c .wide .ensures) (total-most (a .region) (a .arrangement) (a .method) (a .total) (passed t .0)))
+    (c .before .numbers-in .ensures .1, rw (c .wide .ensures) (total-most (a .region) (a .arrangement) (a .method) (a .total) (passed t .0)))
 
 mul-denominator : tie.Need-mul-denominator
 mul-denominator c = search needs
@@ -81,11 +82,10 @@ returns-2 c =
     let f = t .before .before in
     let st = f .before .before .before in
     let a = st .args in
-    let w = within _ _ _ _ (passed t .0) in
-    let most = m .maximum-of .ensures .0 ∙ ap (maximum (e .terms-in .result)) (m .before .wide .ensures) in
-    ap (λ (n : ℕ). maximumCharge (record { number = n; denominator = 12 * e .terms-in .result .m })) most
-    ∙ ap {B = Telling} (λ (d : Terms). maximumCharge (record { number = maximum d (a .total); denominator = 12 * d .m }))
-    (e .terms-in .ensures .0 ∙ terms-told (a .b) (st .pre) (passed t .1) (a .region) (a .arrangement) (a .method) (w .region) (w .arrangement) (w .method))
+    let most = m .maximum-of .ensures .0 ∙ ap (maximum (e .numbers-in .result)) (m .before .wide .ensures) in
+    ap (λ (n : ℕ). maximumCharge (record { number = n; denominator = 12 * e .numbers-in .result .m })) most
+    ∙ ap {B = Telling} (λ (d : CellNumbers). maximumCharge (record { number = maximum d (a .total); denominator = 12 * d .m }))
+    (e .numbers-in .ensures .0 ∙ ap (λ f. cellNumbers f (a .arrangement) 0 (cell (a .region) (a .method))) (figures-are (a .b) (st .pre) (passed t .1)))
     ∙ passed-on _ _ _ _ (maximum-answer (a .b) (a .region) (a .arrangement) (a .method) (a .total)) (checks f) (t .enum-told .given .1)
 
 pub maximum-spec : {M : Type 1} → statement M
@@ -99,7 +99,7 @@ maximum-spec =
     enum-told-2
     refused-requires
     returns
-    terms-in-requires
+    numbers-in-requires
     wide-requires
     maximum-of-requires
     mul-denominator

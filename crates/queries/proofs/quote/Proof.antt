@@ -9,21 +9,19 @@ use lib.ListN.{getD}
 use denote.Ref.{now}
 use Rattle.refusal.specs.declared.Check.the-variants.{Pass}
 use Rattle.refusal.specs.Checks.{unless, first}
-use Rattle.refusal.proofs.Laws.{passes, first-passes}
+use Rattle.refusal.proofs.Checks.{unless-passes, first-passes}
 use Rattle.laws.proofs.Every.{and-left, and-right}
 use Rattle.tariff.specs.declared.Tariff.{Tariff}
 use Rattle.tariff.specs.Tariff.{validTariff}
-use Rattle.charge.specs.Charge.{arrangement}
-use Rattle.cap.specs.declared.Terms.{Terms}
+use Rattle.tariff.proofs.Validity.{valid-standing}
+use Rattle.cap.specs.declared.CellNumbers.{CellNumbers}
 use Rattle.cap.specs.Cap.{charged, capped}
-use Rattle.verdict.specs.Cells.{cell, terms}
+use Rattle.verdict.specs.Cells.{cell, cellNumbers, tariffNumbers}
 use Rattle.book.specs.Checks.{figuresOf}
 use Rattle.book.specs.Book.{tariffIn, beyond, sheetIn}
 use Rattle.book.specs.Settling.{codeCheck, emptyCheck, heldCheck}
 use Rattle.stands.proofs.InForce.{figures-are, figures-lawful, filled-valid}
-use Rattle.queries.specs.Reading.{termsIn}
 use Rattle.queries.specs.Queries.{quotation, cellAllowed, monthsAllowed}
-use Rattle.queries.proofs.InForce.{months-are, terms-of-cell}
 use Rattle.queries.proofs.Ranges.{cell-within}
 use Rattle.queries.proofs.Listed.{months-for}
 use Rattle.queries.proofs.Answers.{hands-on, passed-on, quote-answer}
@@ -32,9 +30,9 @@ use Rattle.queries.proofs.quote.Statement.{statement}
 use Rattle.queries.proofs.quote.Tie as tie
 
 -- both sides, for the numbers of the cell and the tariff
-sides : (months : List ℕ) (n m : ℕ) (e d : Terms) (x y : Tariff) → n ≡ charged e x months → m ≡ capped e months → e ≡ d → x ≡ y
+sides : (months : List ℕ) (n m : ℕ) (e d : CellNumbers) (x y : Tariff) → n ≡ charged e x months → m ≡ capped e months → e ≡ d → x ≡ y
     → quotation (record { charge = n; maximum = m }) ≡ quotation (record { charge = charged d y months; maximum = capped d months })
-sides months n m e d x y p q f g = λ i. quotation (record { charge = (p ∙ ap₂ (λ (k : Terms) (z : Tariff). charged k z months) f g) i; maximum = (q ∙ ap (λ (k : Terms). capped k months) f) i })
+sides months n m e d x y p q f g = λ i. quotation (record { charge = (p ∙ ap₂ (λ (k : CellNumbers) (z : Tariff). charged k z months) f g) i; maximum = (q ∙ ap (λ (k : CellNumbers). capped k months) f) i })
 
 -- the place of the code
 abbrev at : tie.After-held-check → ℕ
@@ -76,8 +74,8 @@ passed c =
     let past-10 = first-passes (unless (st .args .b .loaded) 10 Pass) _ (past-9 .1) in
     record {
       valid = filled-valid (st .args .b) (st .pre) (i .result) (i .ensures .0) (past-9 .0);
-      loaded = passes _ 10 Pass (past-10 .0) .0;
-      allows = passes (allowed h) 13 Pass (past-10 .1) .0;
+      loaded = unless-passes _ 10 Pass (past-10 .0) .0;
+      allows = unless-passes (allowed h) 13 Pass (past-10 .1) .0;
     }
 
 index-of-requires : tie.Need-index-of-requires
@@ -125,13 +123,14 @@ returns c =
 arrangement-of-requires : tie.Need-arrangement-of-requires
 arrangement-of-requires c κs = search needs
 
-terms-in-requires : tie.Need-terms-in-requires
-terms-in-requires c κs =
+numbers-in-requires : tie.Need-numbers-in-requires
+numbers-in-requires c κs =
     let t = c .before in
     let h = t .before .before in
     let st = start h in
+    let x = h .before .before .before .before .before .tariff-in .ensures in
     let w = cell-within _ _ _ (and-left (cellAllowed (tariff h) (st .args .region) (st .args .method)) _ (passed t .allows)) in
-    (figures-lawful (st .args .b) (st .pre) (passed t .loaded), w .0, omega (arith, c .arrangement-of .ensures .1), w .1)
+    (figures-lawful (st .args .b) (st .pre) (passed t .loaded), omega (arith, c .arrangement-of .ensures .1), valid-standing _ (ap validTariff x ∙ passed t .valid), w .0, w .1)
 
 sides-of-requires : tie.Need-sides-of-requires
 sides-of-requires c κs =
@@ -139,7 +138,7 @@ sides-of-requires c κs =
     let h = t .before .before in
     let listed = and-right (cellAllowed (tariff h) _ _) (monthsAllowed _ _) (passed t .allows) in
     let x = h .before .before .before .before .before .tariff-in .ensures in
-    (c .terms-in .ensures .1, ap validTariff x ∙ passed t .valid, months-for _ _ _ _ _ (c .terms-in .ensures .0) _ listed)
+    (c .numbers-in .ensures .1, ap validTariff x ∙ passed t .valid, months-for _ _ _ _ _ (c .numbers-in .ensures .0) _ listed)
 
 returns-2 : tie.Need-returns-2
 returns-2 c =
@@ -149,11 +148,10 @@ returns-2 c =
     let st = start h in
     let a = st .args in
     let x : h .before .before .before .before .before .tariff-in .result ≡ tariff h = h .before .before .before .before .before .tariff-in .ensures in
-    let same : e .terms-in .result ≡ terms (figuresOf (sheetIn (a .b))) (tariff h) (cell (a .region) (a .method)) =
-    e .terms-in .ensures .0
-    ∙ ap (λ (i : ℕ). termsIn (a .b .benchmarks) (a .region) i (a .method)) (e .before .arrangement-of .ensures .0 ∙ ap arrangement x)
-    ∙ terms-of-cell (a .b .benchmarks) (tariff h) (a .region) (a .method)
-    ∙ ap (λ f. terms f (tariff h) (cell (a .region) (a .method))) (figures-are (a .b) (st .pre) (passed t .loaded)) in
+    let same : e .numbers-in .result ≡ tariffNumbers (figuresOf (sheetIn (a .b))) (tariff h) (cell (a .region) (a .method)) =
+    e .numbers-in .ensures .0
+    ∙ ap (λ (i : ℕ). cellNumbers (a .b .benchmarks) i (h .before .before .before .before .before .tariff-in .result .standing) (cell (a .region) (a .method))) (e .before .arrangement-of .ensures .0)
+    ∙ ap₂ (λ f y. tariffNumbers f y (cell (a .region) (a .method))) (figures-are (a .b) (st .pre) (passed t .loaded)) x in
     sides (now (a .months)) _ _ _ _ _ _ (c .sides-of .ensures .0) (c .sides-of .ensures .1) same x
     ∙ passed-on _ _ _ _
     (quote-answer (a .b) (st .pre) (a .code) (a .region) (a .method) (now (a .months)) (at h) (h .before .before .before .before .before .before .before .before .index-of .ensures .1))
@@ -176,6 +174,6 @@ quote-spec =
     refused-requires
     returns
     arrangement-of-requires
-    terms-in-requires
+    numbers-in-requires
     sides-of-requires
     returns-2)

@@ -1,7 +1,7 @@
 -- `setting::judged` meets its contract.
 -- Assumes nothing.
 use mathlib.Core.Path.{sym, _∙_, ap, subst}
-use Rattle.verdict.specs.Found.{Finds}
+use Rattle.verdict.specs.Rulings.{Finds}
 use mathlib.Core.Option.{some}
 use Rattle.book.specs.declared.State.{State}
 use Rattle.book.specs.Book.{tariffIn}
@@ -61,7 +61,7 @@ returns-4 c =
     c .in-state .ensures
     ∙ open-judged (st .args .figures) (st .args .p) (t .before .enum-told3 .given .1) (some _)
     (ap (firstOver (st .args .figures)) (sym (t .tariff-in .ensures))
-    ∙ subst (Finds (st .args .figures) (t .tariff-in .result)) (c .before .enum-told5 .given .1) (c .before .before .before .first-over .ensures) .0)
+    ∙ subst (Finds (st .args .figures) (t .tariff-in .result)) (c .before .enum-told5 .given .1) (c .before .before .before .first-over .ensures))
 
 pub judged-spec : {M : Type 1} → statement M
 judged-spec =

@@ -6,7 +6,7 @@ use lib.Dec.{leb}
 use borrow.Author.Needs.{needs}
 use borrow.Author.Tests.{le-leb, lt-leb, not-true, not-false}
 use Rattle.laws.proofs.Every.{and-both}
-use Rattle.tariff.specs.Tariff.{validKind, validTariff}
+use Rattle.tariff.specs.Tariff.{standingMost, validKind, validTariff}
 use Rattle.tariff.specs.declared.Tariff.{Tariff}
 use Rattle.tariff.proofs.ByKind.{single, double, multiple, no-kind}
 use Rattle.tariff.proofs.is_valid.Statement.{statement}
@@ -24,16 +24,16 @@ x₅ c = x₃ (c .before .before .before .before)
 abbrev x₆ : tie.Else6 → Tariff
 x₆ c = x₅ (c .before .before)
 
-standing : (c : tie.Else1) → leb (x₁ c .standing) 1000000 ≡ true
+standing : (c : tie.Else1) → leb (x₁ c .standing) standingMost ≡ true
 standing c = le-leb _ _ (c .if1 .left)
 
-regions : (c : tie.Else3) → (leb (x₃ c .standing) 1000000 && (leb 1 (x₃ c .regions) && leb (x₃ c .regions) 16383)) ≡ true
+regions : (c : tie.Else3) → (leb (x₃ c .standing) standingMost && (leb 1 (x₃ c .regions) && leb (x₃ c .regions) 16383)) ≡ true
 regions c =
     let l = c .before .before in
     and-both _ _ (standing (l .before .before)) (and-both _ _ (le-leb _ _ (l .if2 .left)) (le-leb _ _ (c .if3 .left)))
 
 methods : (c : tie.Else5) →
-    (leb (x₅ c .standing) 1000000
+    (leb (x₅ c .standing) standingMost
     && (leb 1 (x₅ c .regions) && leb (x₅ c .regions) 16383)
     && (leb 1 (x₅ c .methods) && leb (x₅ c .methods) 3)) ≡ true
 methods c =

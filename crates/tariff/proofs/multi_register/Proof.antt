@@ -10,7 +10,7 @@ use borrow.Author.Tests.{le-leb, lt-leb}
 use Rattle.laws.specs.Notions.{sum}
 use Rattle.laws.proofs.Every.{and-both}
 use Rattle.laws.proofs.Answers.{goes, stays}
-use Rattle.tariff.specs.Tariff.{within, zeroFrom, multiRegister}
+use Rattle.tariff.specs.Tariff.{wholeShare, within, zeroFrom, multiRegister}
 use Rattle.tariff.specs.declared.Tariff.{Tariff}
 use Rattle.tariff.proofs.multi_register.Statement.{statement}
 use Rattle.tariff.proofs.multi_register.Tie as tie
@@ -24,17 +24,17 @@ allowed c = and-both _ _ (le-leb _ _ (c .before .if1 .left)) (le-leb _ _ (c .if2
 abbrev x₃ : tie.Joined3 → Tariff
 x₃ c = x (c .before .before)
 
-two : (c : tie.Joined3) → c .if3 .if4 ≡ (within (x₃ c .steps) (x₃ c .n) 0 100 && eqb (sum (take (x₃ c .n) (x₃ c .steps))) 100)
+two : (c : tie.Joined3) → c .if3 .if4 ≡ (within (x₃ c .steps) (x₃ c .n) 0 wholeShare && eqb (sum (take (x₃ c .n) (x₃ c .steps))) wholeShare)
 two c =
     ⊎-elim
-    (λ w. w .2 ∙ goes _ _ _ _ (c .before .all-within .ensures) (w .0 .taken) (ap (λ s. eqb s 100) (w .1 .ensures)))
+    (λ w. w .2 ∙ goes _ _ _ _ (c .before .all-within .ensures) (w .0 .taken) (ap (λ s. eqb s wholeShare) (w .1 .ensures)))
     (λ w. w .1 ∙ stays _ _ _ (c .before .all-within .ensures) (w .0 .left))
     (c .if3 .came)
 
 three : (c : tie.Joined4) →
     c .if4 .if5 ≡
-    (within (x₃ (c .before) .steps) (x₃ (c .before) .n) 0 100
-    && eqb (sum (take (x₃ (c .before) .n) (x₃ (c .before) .steps))) 100
+    (within (x₃ (c .before) .steps) (x₃ (c .before) .n) 0 wholeShare
+    && eqb (sum (take (x₃ (c .before) .n) (x₃ (c .before) .steps))) wholeShare
     && zeroFrom (x₃ (c .before) .rates) (x₃ (c .before) .n))
 three c =
     ⊎-elim

@@ -1,4 +1,4 @@
--- `tariff::rates_within` meets its contract. The loop's invariant: each rate before i is at most 200,000.
+-- `tariff::rates_within` meets its contract. The loop's invariant: each rate before i is at most the greatest.
 -- Assumes nothing.
 use mathlib.Core.Path.{_≡_, refl}
 use mathlib.Core.Bool.{true}
@@ -10,13 +10,13 @@ use borrow.Author.Needs.{needs}
 use borrow.Author.Tests.{le-leb, lt-leb}
 use Rattle.laws.specs.Notions.{every}
 use Rattle.laws.proofs.Every.{every-more}
-use Rattle.tariff.specs.Tariff.{ratesWithin}
+use Rattle.tariff.specs.Tariff.{rateMost, ratesWithin}
 use Rattle.laws.proofs.Answers.{stops, ends}
 use Rattle.tariff.proofs.rates_within.Statement.{statement}
 use Rattle.tariff.proofs.rates_within.Tie as tie
 
 abbrev Inv-loop : tie.InvT-loop
-Inv-loop rates i₀ i = (i ≤ 4) × (every i (λ j. leb (getD rates j 0) 200000) ≡ true)
+Inv-loop rates i₀ i = (i ≤ 4) × (every i (λ j. leb (getD rates j 0) rateMost) ≡ true)
 
 abbrev μ-loop : tie.MeasureT-loop
 μ-loop rates i₀ i = 4 - i

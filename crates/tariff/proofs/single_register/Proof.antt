@@ -9,7 +9,7 @@ use borrow.Author.Needs.{needs}
 use borrow.Author.Tests.{le-leb, lt-leb}
 use Rattle.laws.proofs.Every.{and-both}
 use Rattle.laws.proofs.Answers.{goes, stays}
-use Rattle.tariff.specs.Tariff.{within, rising, zeroFrom, singleRegister}
+use Rattle.tariff.specs.Tariff.{stepMost, within, rising, zeroFrom, singleRegister}
 use Rattle.tariff.specs.declared.Tariff.{Tariff}
 use Rattle.tariff.proofs.single_register.Statement.{statement}
 use Rattle.tariff.proofs.single_register.Tie as tie
@@ -23,7 +23,7 @@ allowed c = and-both _ _ (le-leb _ _ (c .before .if1 .left)) (le-leb _ _ (c .if2
 abbrev x₃ : tie.Joined3 → Tariff
 x₃ c = x (c .before .before)
 
-two : (c : tie.Joined3) → c .if3 .if4 ≡ (within (x₃ c .steps) (x₃ c .n - 1) 1 9999 && rising (x₃ c .steps) (x₃ c .n - 1))
+two : (c : tie.Joined3) → c .if3 .if4 ≡ (within (x₃ c .steps) (x₃ c .n - 1) 1 stepMost && rising (x₃ c .steps) (x₃ c .n - 1))
 two c =
     ⊎-elim
     (λ w. w .2 ∙ goes _ _ _ _ (c .before .all-within .ensures) (w .0 .taken) (w .1 .ensures))
@@ -32,7 +32,7 @@ two c =
 
 three : (c : tie.Joined4) →
     c .if4 .if5 ≡
-    (within (x₃ (c .before) .steps) (x₃ (c .before) .n - 1) 1 9999
+    (within (x₃ (c .before) .steps) (x₃ (c .before) .n - 1) 1 stepMost
     && rising (x₃ (c .before) .steps) (x₃ (c .before) .n - 1)
     && zeroFrom (x₃ (c .before) .rates) (x₃ (c .before) .n))
 three c =

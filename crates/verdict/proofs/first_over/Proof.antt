@@ -1,14 +1,14 @@
 -- `verdict::first_over` meets its contract. The invariant of each loop: no cell before the one at hand exceeds.
 -- Assumes nothing.
-use mathlib.Core.Path.{_≡_, refl, sym, _∙_, subst}
+use mathlib.Core.Path.{_≡_, refl, sym, _∙_}
+use mathlib.Core.Bool.{Bool}
 use mathlib.Core.Logic.{⊎-elim}
 use mathlib.Core.Option.{none}
-use Prim.Native.Nat.{ℕ, _+_, _-_, _*_, _≤_}
+use Prim.Native.Nat.{_+_, _-_, _*_, _<_, _≤_}
 use native.Mathlib.Omega.{arith}
-use Rattle.cap.specs.Judged.{Cornered, Fits, Judges}
-use Rattle.cap.specs.declared.Terms.{Terms}
-use Rattle.verdict.specs.Cells.{terms, firstBelow, cell}
-use Rattle.verdict.proofs.Walk.{terms-are, terms-fit, not-method, within-cell, passed, region-starts, region-ends, region-passed, walked, over-cell}
+use Rattle.cap.specs.Corners.{Cornered, Fits}
+use Rattle.verdict.specs.Cells.{exceedsAt, firstBelow, tariffNumbers, cell}
+use Rattle.verdict.proofs.Walk.{tariff-numbers, tariff-fits, tariff-cornered, not-method, in-cell, passed, region-starts, region-ends, region-passed, walked, over-cell}
 use borrow.Author.Needs.{needs}
 use Rattle.verdict.proofs.first_over.Statement.{statement}
 use Rattle.verdict.proofs.first_over.Tie as tie
@@ -25,19 +25,39 @@ Inv-walk b x charges arrangement m k region₀ region = (region ≤ 14) × (firs
 abbrev μ-walk : tie.MeasureT-walk
 μ-walk b x charges arrangement m k region₀ region = 14 - region
 
--- the terms that were read are those of the cell at hand
-terms-of : (c : tie.After-terms-at Inv-loop μ-loop Inv-walk μ-walk)
-    → c .terms-at .result ≡ terms (c .before .before .before .before .before .before .before .before .before .before .before .before .before .before .before .args .b) (c .before .before .before .before .before .before .before .before .before .before .before .before .before .before .before .args .x) (cell (c .before .before .before .before .before .before .before .before .before .walk .region) (c .before .before .before .before .before .loop .method))
-terms-of c =
-    let st = c .before .before .before .before .before .before .before .before .before .before .before .before .before .before .before in
-    let a = c .before .before .before .before .before .before .before .before .before .before .before .before .arrangement-of in
-    let t = c .terms-at .ensures in
-    terms-are (st .args .b) (st .args .x) (c .before .before .before .before .before .before .before .before .before .walk .region) (c .before .before .before .before .before .loop .method) (a .result) (c .terms-at .result) (a .ensures .0) (t .0) (t .1) (t .2) (t .3) (t .4)
+-- the numbers that were read are those of the cell at hand, in which the corners are the tariff's
+module _ (c : tie.After-cell-numbers Inv-loop μ-loop Inv-walk μ-walk) where
+  in-region : c .before .before .before .before .before .before .before .before .before .walk .region < 14
+  in-region = omega (arith, c .before .before .before .before .before .before .before .before .if1 .left)
 
--- so the judgement is of that cell
-judged-cell : (c : tie.After-judge Inv-loop μ-loop Inv-walk μ-walk)
-    → Judges (terms (c .before .before .before .before .before .before .before .before .before .before .before .before .before .before .before .before .args .b) (c .before .before .before .before .before .before .before .before .before .before .before .before .before .before .before .before .args .x) (cell (c .before .before .before .before .before .before .before .before .before .before .walk .region) (c .before .before .before .before .before .before .loop .method))) (c .before .before .before .before .before .before .before .before .before .before .before .before .before .before .before .before .args .x) (c .judge .result)
-judged-cell c = subst (λ (e : Terms). Judges e (c .before .before .before .before .before .before .before .before .before .before .before .before .before .before .before .before .args .x) (c .judge .result)) (terms-of (c .before)) (c .judge .ensures)
+  numbers : let a = c .before .before .before .before .before .before .before .before .before .before .before .before .before .before .before .args in c .cell-numbers .result ≡ tariffNumbers (a .b) (a .x) (cell (c .before .before .before .before .before .before .before .before .before .walk .region) (c .before .before .before .before .before .loop .method))
+  numbers =
+      let st = c .before .before .before .before .before .before .before .before .before .before .before .before .before .before .before in
+      tariff-numbers (st .args .b) (st .args .x) (st .pre .0) (st .pre .1) _ _ _ in-region (c .before .before .before .before .loop-test .taken) (c .before .before .before .before .before .before .before .before .before .before .before .before .arrangement-of .ensures .0) _
+      (c .cell-numbers .ensures (st .args .b) refl refl refl refl)
+
+  fits : Fits (c .cell-numbers .result)
+  fits =
+      let st = c .before .before .before .before .before .before .before .before .before .before .before .before .before .before .before in
+      tariff-fits (st .args .b) (st .args .x) (st .pre .0) (st .pre .1) _ _ _ in-region (c .before .before .before .before .loop-test .taken) (c .before .before .before .before .before .before .before .before .before .before .before .before .arrangement-of .ensures .0) _
+      (c .cell-numbers .ensures (st .args .b) refl refl refl refl)
+
+  tariffs : Cornered (c .cell-numbers .result .peak) (c .before .before .before .before .before .before .before .before .before .before .before .before .before .before .before .args .x) (c .cell-numbers .result .m) (c .before .before .before .before .before .before .before .before .before .before .corners-of .result)
+  tariffs =
+      let st = c .before .before .before .before .before .before .before .before .before .before .before .before .before .before .before in
+      tariff-cornered (st .args .b) (st .args .x) (st .pre .0) (st .pre .1) _ _ _ in-region (c .before .before .before .before .loop-test .taken) (c .before .before .before .before .before .before .before .before .before .before .before .before .arrangement-of .ensures .0) _
+      (c .cell-numbers .ensures (st .args .b) refl refl refl refl) _ _ (c .before .before .before .before .before .before .before .before .before .before .before .wide .ensures) (c .before .before .before .before .before .before .before .before .before .before .corners-of .ensures)
+
+-- so the answer is that of the cell
+decides : (c : tie.After-exceeds Inv-loop μ-loop Inv-walk μ-walk) → let n = c .before in let a = n .before .before .before .before .before .before .before .before .before .before .before .before .before .before .before .args in
+    exceedsAt (a .b) (a .x) (2 * n .before .before .before .before .before .before .before .before .before .walk .region + n .before .before .before .before .before .loop .method) ≡ c .exceeds .result
+decides c =
+    let n = c .before in
+    let a = n .before .before .before .before .before .before .before .before .before .before .before .before .before .before .before .args in
+    in-cell (a .b) (a .x) _ _ (n .before .before .before .before .loop-test .taken)
+    (sym (n .before .before .before .before .before .before .before .has .ensures) ∙ n .before .before .before .before .before .before .if2 .taken)
+    (sym (n .before .before .before .has2 .ensures) ∙ n .before .before .if3 .taken)
+    _ (numbers n) _ (c .exceeds .ensures)
 
 arrangement-of-requires : tie.Need-arrangement-of-requires Inv-loop μ-loop Inv-walk μ-walk
 arrangement-of-requires c κs = search needs
@@ -52,7 +72,9 @@ wide-requires : tie.Need-wide-requires Inv-loop μ-loop Inv-walk μ-walk
 wide-requires c κs = search needs
 
 corners-of-requires : tie.Need-corners-of-requires Inv-loop μ-loop Inv-walk μ-walk
-corners-of-requires c κs = let st = c .before .before .before .before in (st .pre .1, rw (c .wide .ensures) (st .pre .0 .level-most (c .before .arrangement-of .result)))
+corners-of-requires c κs =
+    let st = c .before .before .before .before in
+    (st .pre .1, omega arith, rw (c .wide .ensures) (st .pre .0 .level-most (c .before .arrangement-of .result)))
 
 walk-holds : tie.Need-walk-holds Inv-loop μ-loop Inv-walk μ-walk
 unfolding firstBelow
@@ -67,48 +89,14 @@ loop-holds c = let w = c .before .before .before in let st = w .before .before .
 has-requires-2 : tie.Need-has-requires-2 Inv-loop μ-loop Inv-walk μ-walk
 has-requires-2 c κs = search needs
 
-cast-at : tie.Need-cast-at Inv-loop μ-loop Inv-walk μ-walk
-cast-at c = search needs
+slice-aggregate-cell-numbers : tie.Need-slice-aggregate-cell-numbers Inv-loop μ-loop Inv-walk μ-walk
+slice-aggregate-cell-numbers c = search needs
 
-mul-at : tie.Need-mul-at Inv-loop μ-loop Inv-walk μ-walk
-mul-at c = search needs
+cell-numbers-requires : tie.Need-cell-numbers-requires Inv-loop μ-loop Inv-walk μ-walk
+cell-numbers-requires c κs = search needs
 
-mul-at-2 : tie.Need-mul-at-2 Inv-loop μ-loop Inv-walk μ-walk
-mul-at-2 c = search needs
-
-add-at : tie.Need-add-at Inv-loop μ-loop Inv-walk μ-walk
-add-at c = search needs
-
-cast-at-2 : tie.Need-cast-at-2 Inv-loop μ-loop Inv-walk μ-walk
-cast-at-2 c = search needs
-
-mul-at-3 : tie.Need-mul-at-3 Inv-loop μ-loop Inv-walk μ-walk
-mul-at-3 c = search needs
-
-add-at-2 : tie.Need-add-at-2 Inv-loop μ-loop Inv-walk μ-walk
-add-at-2 c = search needs
-
-slice-aggregate-terms-at : tie.Need-slice-aggregate-terms-at Inv-loop μ-loop Inv-walk μ-walk
-slice-aggregate-terms-at c = search needs
-
-terms-at-requires : tie.Need-terms-at-requires Inv-loop μ-loop Inv-walk μ-walk
-terms-at-requires c κs = search needs
-
-judge-requires : tie.Need-judge-requires Inv-loop μ-loop Inv-walk μ-walk
-judge-requires c κs =
-    let st = c .before .before .before .before .before .before .before .before .before .before .before .before .before .before .before in
-    let w = c .before .before .before .before .before .before .before .before .before .walk in
-    let co = c .before .before .before .before .before .before .before .before .before .before in (
-      st .pre .1,
-      subst (λ (n : ℕ). Cornered (st .args .x) n (co .corners-of .result)) (co .before .wide .ensures ∙ sym (c .terms-at .ensures .2)) (co .corners-of .ensures),
-      subst Fits (sym (terms-of c)) (terms-fit (st .args .b) (st .args .x) (st .pre .0) (w .region) (c .before .before .before .before .before .loop .method) (omega (arith, c .before .before .before .before .before .before .before .before .if1 .left)) (c .before .before .before .before .loop-test .taken)),
-    )
-
-enum-known-judged : tie.Need-enum-known-judged Inv-loop μ-loop Inv-walk μ-walk
-enum-known-judged c = search needs
-
-enum-told : tie.Need-enum-told Inv-loop μ-loop Inv-walk μ-walk
-enum-told c = search needs
+exceeds-requires : tie.Need-exceeds-requires Inv-loop μ-loop Inv-walk μ-walk
+exceeds-requires c κs = (c .before .before .before .before .before .before .before .before .before .before .before .before .before .before .before .pre .1, tariffs c, fits c)
 
 add-method : tie.Need-add-method Inv-loop μ-loop Inv-walk μ-walk
 add-method c = search needs
@@ -128,9 +116,8 @@ loop-again c =
       passed b x (w .walk .region) (l .loop .method) (l .loop .inv .1)
           (⊎-elim
           (λ v.
-          within-cell b x (w .walk .region) (l .loop .method) p
-          (subst (Judges (terms b x (cell (w .walk .region) (l .loop .method))) x) (v .5 .given .1)
-          (judged-cell (record { before = record { before = record { before = record { before = c .before; if3 = v .0 }; charges2 = v .1 }; terms-at = v .2 }; judge = v .3 }))))
+          decides (record { before = record { before = record { before = record { before = c .before; if3 = v .0 }; charges2 = v .1 }; cell-numbers = v .2 }; exceeds = v .3 })
+          ∙ v .4 .left)
           (λ v. not-method b x (w .walk .region) (l .loop .method) p (sym (c .before .has2 .ensures) ∙ v .left))
           (c .if3 .came)),
     )
@@ -159,17 +146,10 @@ returns c = let w = c .before in let st = w .before .before .before .before .bef
 
 returns-2 : tie.Need-returns-2 Inv-loop μ-loop Inv-walk μ-walk
 returns-2 c =
-    let j = c .before .before .before in
-    let l = j .before .before .before .before .before .before in
-    let w = j .before .before .before .before .before .before .before .before .before .before in
-    let st = w .before .before .before .before .before .before in
-    let b = st .args .b in
-    let x = st .args .x in
-    over-cell b x (w .walk .region) (l .loop .method) _ _ (omega (arith, j .before .before .before .before .before .before .before .before .before .if1 .left)) (j .before .before .before .before .before .loop-test .taken)
-    (sym (j .before .before .before .before .before .before .before .before .has .ensures) ∙ j .before .before .before .before .before .before .before .if2 .taken)
-    (sym (j .before .before .before .before .has2 .ensures) ∙ j .before .before .before .if3 .taken)
-    (l .loop .inv .1)
-    (subst (Judges (terms b x (cell (w .walk .region) (l .loop .method))) x) (c .before .judged .given .1) (judged-cell j))
+    let j = c .before in
+    let n = j .before in
+    let st = n .before .before .before .before .before .before .before .before .before .before .before .before .before .before .before in
+    over-cell (st .args .b) (st .args .x) _ _ (in-region n) (n .before .before .before .before .loop-test .taken) (n .before .before .before .before .before .loop .inv .1) (decides j ∙ c .if4 .taken)
 
 pub first-over-spec : {M : Type 1} → statement M
 first-over-spec =
@@ -188,18 +168,9 @@ first-over-spec =
     has-requires
     loop-holds
     has-requires-2
-    cast-at
-    mul-at
-    mul-at-2
-    add-at
-    cast-at-2
-    mul-at-3
-    add-at-2
-    slice-aggregate-terms-at
-    terms-at-requires
-    judge-requires
-    enum-known-judged
-    enum-told
+    slice-aggregate-cell-numbers
+    cell-numbers-requires
+    exceeds-requires
     add-method
     loop-less
     loop-again

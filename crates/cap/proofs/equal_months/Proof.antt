@@ -1,4 +1,4 @@
--- `codes::equal_months` meets its contract. After i turns the first i months are the month, and the rest are 0.
+-- `cap::equal_months` meets its contract. After i turns the first i months are the month, and the rest are 0.
 -- Assumes nothing.
 use mathlib.Core.Path.{_≡_, refl, ap, _∙_}
 use mathlib.Core.List.{List, _++_}
@@ -7,11 +7,12 @@ use native.Mathlib.Omega.{arith}
 use lib.ListN.{drop, replicate, set}
 use borrow.Author.Needs.{needs}
 use borrow.Author.Fill.{fill-more}
-use Rattle.codes.proofs.equal_months.Statement.{statement}
-use Rattle.codes.proofs.equal_months.Tie as tie
+use Rattle.charge.specs.Most.{monthsMost}
+use Rattle.cap.proofs.equal_months.Statement.{statement}
+use Rattle.cap.proofs.equal_months.Tie as tie
 
 abbrev Inv-loop : tie.InvT-loop
-Inv-loop month t months₀ i₀ months i = (i ≤ t) × (months ≡ replicate i month ++ drop i (replicate 12 0))
+Inv-loop month t months₀ i₀ months i = (i ≤ t) × (months ≡ replicate i month ++ drop i (replicate monthsMost 0))
 
 abbrev μ-loop : tie.MeasureT-loop
 μ-loop month t months₀ i₀ months i = t - i
@@ -34,8 +35,8 @@ loop-less c = search needs
 loop-again : tie.Need-loop-again Inv-loop μ-loop
 loop-again c =
     let lp = c .before .loop in
-    let l : lp .i < 12 = omega (arith, c .before .before .pre) in
-    (omega arith, ap (λ (m : List ℕ). set m (lp .i) (c .before .before .args .month)) (lp .inv .1) ∙ fill-more (lp .i) (c .before .before .args .month) (replicate 12 0) l)
+    let l : lp .i < monthsMost = omega (arith, c .before .before .pre) in
+    (omega arith, ap (λ (m : List ℕ). set m (lp .i) (c .before .before .args .month)) (lp .inv .1) ∙ fill-more (lp .i) (c .before .before .args .month) (replicate monthsMost 0) l)
 
 returns : tie.Need-returns Inv-loop μ-loop
 returns c = let lp = c .before .loop in let e : lp .i ≡ c .before .before .args .t = omega arith in rw e at (lp .inv .1)

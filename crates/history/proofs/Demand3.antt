@@ -22,11 +22,12 @@ use Rattle.book.specs.declared.Book.{Book}
 use Rattle.book.specs.Calls.{Sheet, Act, SET, PUT, OPEN, CLOSE, DROP, Call, isAccepted}
 use Rattle.book.specs.Checks.{Holding, Readings, figuresOf, complies, inside, answer}
 use Rattle.book.specs.Book.{empty, placeWith, tariffIn, withState, fresh, placeOf, holding, heldIn, held, inForce, bookReadings, withPlace, openIf, stateUnder, changed, after, step, bookAfter, answersOf, Reachable}
-use Rattle.book.proofs.Places.{code-range, at-set, at-map, fresh-place, held-inside, record-valid}
+use Rattle.book.proofs.Places.{code-range, at-set, at-map, fresh-place, held-inside}
 use Rattle.book.proofs.Accepted.{put-accepted, close-accepted, drop-accepted, open-accepted}
 use Rattle.book.proofs.Reached.{fresh-reachable, step-reachable}
-use Rattle.stands.specs.Stands.{Recorded, MayOpen, FitsAs}
-use Rattle.stands.proofs.Kept.{reachable-stands}
+use Rattle.stands.specs.Stands.{MayOpen}
+use Rattle.stands.proofs.Kept.{held-fits, reachable-stands}
+use Rattle.stands.proofs.InForce.{recorded-valid}
 use Rattle.history.specs.History.{sheetOf, tariffAt, openOf, staysOpen, heldAs, readings, noted, logAfter, acceptedOf, answersAfter}
 use Rattle.history.specs.Claim.{MonthsOf, excessIn, OpenAnswer, Demand3}
 use Rattle.history.proofs.OpenAnswers.{nowhere-above, open-answer}
@@ -138,18 +139,6 @@ all-steps (c ∷ cs) log b from same =
 at-start : bookReadings fresh ≡ readings []
 at-start = same-readings _ _ refl (λ k. fresh-place held refl k)
 
--- what a place that fits holds
-fits-held : (f : Option Sheet) (s : State) (p : Place) → FitsAs f s p → (x : Tariff) (o : Bool) → heldIn s (tariffIn p) ≡ some (holding x o)
-    → Recorded x × (o ≡ true → MayOpen f x)
-fits-held f Empty p w x o e = never (cc)
-fits-held f Draft p w x o e =
-    let same : holding (tariffIn p) false ≡ holding x o = cc in
-    let shut : false ≡ o = ap (λ h. h .isOpen) same in
-    (subst Recorded (ap (λ h. h .tariff) same) w, λ q. never (cc))
-fits-held f Open p w x o e =
-    let same : holding (tariffIn p) true ≡ holding x o = cc in
-    (subst Recorded (ap (λ h. h .tariff) same) (w .0), λ q. subst (MayOpen f) (ap (λ h. h .tariff) same) (w .1))
-
 -- an open code, by what is held
 open-held : (t : Option Tariff) (o : Bool) (x : Tariff) → heldAs t o ≡ some (holding x true) → (o ≡ true) × (t ≡ some x)
 open-held none o x e = never (cc)
@@ -190,20 +179,21 @@ module _ (calls : List Call) where
   holds : (k : ℕ) → held (placeOf (b .places) k) ≡ heldAs (tariffAt log k) (openOf log k)
   holds k = ap (λ r. r .held k) same
 
+  -- what a place holds is a valid tariff, and one that may be open where it is
   fits-at : (k : ℕ) (x : Tariff) (o : Bool) → held (placeOf (b .places) k) ≡ some (holding x o)
-      → (inside k ≡ true) × Recorded x × (o ≡ true → MayOpen (inForce b) x)
+      → (inside k ≡ true) × (validTariff x ≡ true) × (o ≡ true → MayOpen (inForce b) x)
   fits-at k x o e =
       let p = placeOf (b .places) k in
       let w = reachable-stands b reached in
       let i = held-inside (b .places) k (holding x o) (w .size) e in
-      let f = fits-held (inForce b) (p .state) p (w .places k i) x o e in
-      (i, f .0, f .1)
+      let f = held-fits (inForce b) (p .state) p (w .places k i) (holding x o) e in
+      (i, sym (ap validTariff (f .1)) ∙ recorded-valid (tariffIn p) (f .0), λ q. subst (MayOpen (inForce b)) (f .1) (f .2 q))
 
   -- a code with a tariff is one of the 32, and its tariff is valid
   known : (k : ℕ) (x : Tariff) → tariffAt log k ≡ some x → (inside k ≡ true) × (validTariff x ≡ true)
   known k x e =
       let f = fits-at k x (openOf log k) (holds k ∙ ap (λ t. heldAs t (openOf log k)) e) in
-      (f .0, ap validTariff (f .1 .2) ∙ record-valid (f .1 .0) (f .1 .1))
+      (f .0, f .1)
 
   -- the answer that is read for an OPEN
   read-open : (c : Call) (k : ℕ) → c .act ≡ OPEN k → OpenAnswer log k (answer (readings log) (c .act))

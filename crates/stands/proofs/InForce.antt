@@ -25,6 +25,10 @@ use mathlib.Core.Option.{Option}
 use Rattle.stands.specs.Stands.{Recorded, FitsAs, HoldsAs, Holds}
 use Rattle.stands.proofs.Kept.{reachable-stands}
 
+-- a tariff that PUT accepts is valid
+pub recorded-valid : (x : Tariff) → Recorded x → validTariff x ≡ true
+recorded-valid x r = ap validTariff (r .2) ∙ record-valid (r .0) (r .1)
+
 module _ (b : Book) (from : Reachable b) where
   module _ (loaded : b .loaded ≡ true) where
     pub figures-are : b .benchmarks ≡ figuresOf (sheetIn b)
@@ -33,13 +37,10 @@ module _ (b : Book) (from : Reachable b) where
     pub figures-lawful : Lawful (b .benchmarks)
     figures-lawful = subst Lawful (sym figures-are) (lawful (b .fields) (b .period) (reachable-stands b from .with-sheet loaded .0))
 
-  valid : (x : Tariff) → Recorded x → validTariff x ≡ true
-  valid x r = ap validTariff (r .2) ∙ record-valid (r .0) (r .1)
-
   holds : (s : Option Sheet) (q : State) (p : Place) → FitsAs s q p → HoldsAs q (tariffIn p)
   holds s Empty p f = tt
-  holds s Draft p f = valid (tariffIn p) f
-  holds s Open p f = valid (tariffIn p) (f .0)
+  holds s Draft p f = recorded-valid (tariffIn p) f
+  holds s Open p f = recorded-valid (tariffIn p) (f .0)
 
   pub holds-at : (i : ℕ) → i < 32 → Holds (getD (b .places) i beyond)
   holds-at i h =

@@ -24,12 +24,14 @@ use Rattle.book.proofs.Accepted.{checked-accepted, put-accepted, close-accepted
 use Rattle.book.proofs.Reached.{always}
 use Rattle.stands.specs.Stands.{Recorded, MayOpen, FitsAs, Fits, Stands}
 
--- a place that holds something holds the tariff of a record that passes refusal 8
-recorded : (f : Option Sheet) (s : State) (p : Place) → FitsAs f s p → (h : Holding) → heldIn s (tariffIn p) ≡ some h
-    → Recorded (tariffIn p) × (tariffIn p ≡ h .tariff)
-recorded f Empty p w h e = never (cc)
-recorded f Draft p w h e = (w, let same : holding (tariffIn p) false ≡ h = cc in ap (λ g. g .tariff) same)
-recorded f Open p w h e = (w .0, let same : holding (tariffIn p) true ≡ h = cc in ap (λ g. g .tariff) same)
+-- a place that holds something holds the tariff of a record that passes refusal 8, and one that may be open where it is
+pub held-fits : (f : Option Sheet) (s : State) (p : Place) → FitsAs f s p → (h : Holding) → heldIn s (tariffIn p) ≡ some h
+    → Recorded (tariffIn p) × (tariffIn p ≡ h .tariff) × (h .isOpen ≡ true → MayOpen f (tariffIn p))
+held-fits f Empty p w h e = never (cc)
+held-fits f Draft p w h e =
+    let same : holding (tariffIn p) false ≡ h = cc in
+    (w, ap (λ g. g .tariff) same, λ q. never (let z : false ≡ true = ap (λ g. g .isOpen) same ∙ q in cc))
+held-fits f Open p w h e = let same : holding (tariffIn p) true ≡ h = cc in (w .0, ap (λ g. g .tariff) same, λ q. w .1)
 
 -- a sheet comes in
 none-of : (o : Option Cell) → isNone o ≡ true → o ≡ none
@@ -80,12 +82,12 @@ stands-changed b h (PUT k x) e =
 stands-changed b h (OPEN k) e =
     let p = placeOf (b .places) k in
     let f = open-accepted k (held p) (inForce b) e in
-    let r = recorded (inForce b) (p .state) p (h .places k (f .code)) (f .h) (f .its) in
+    let r = held-fits (inForce b) (p .state) p (h .places k (f .code)) (f .h) (f .its) in
     stands-place b k (withState Open p) h (f .code) (r .0, may-open (inForce b) (f .s) (tariffIn p) (f .h .tariff) (f .in-force) (r .1) (f .none-over))
 stands-changed b h (CLOSE k) e =
     let p = placeOf (b .places) k in
     let f = close-accepted k (held p) e in
-    stands-place b k (withState Draft p) h (f .0) (recorded (inForce b) (p .state) p (h .places k (f .0)) (f .1) (f .2) .0)
+    stands-place b k (withState Draft p) h (f .0) (held-fits (inForce b) (p .state) p (h .places k (f .0)) (f .1) (f .2) .0)
 stands-changed b h (DROP k) e = stands-place b k empty h (drop-accepted k (held (placeOf (b .places) k)) e) refl
 
 fresh-fits : (k : ℕ) → inside k ≡ true → Fits none (placeOf (fresh .places) k)

@@ -10,7 +10,7 @@ use lib.ListN.{length, take, drop}
 use borrow.Author.Tests.{ltb-true, ltb-false, lt-ltb, le-leb}
 use Rattle.laws.proofs.Every.{and-both}
 use Rattle.book.specs.declared.Book.{Book}
-use Rattle.book.proofs.Places.{never}
+use Rattle.laws.proofs.Never.{never}
 use Rattle.answers.specs.Writing.{answerRoom}
 use Rattle.protocol.specs.Lines.{between}
 use Rattle.desk.specs.declared.Input.{Input}

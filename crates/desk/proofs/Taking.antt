@@ -16,7 +16,7 @@ use Rattle.libc.specs.Io.{Moved}
 use Rattle.bytes.specs.Bytes.{indexOf, indexAfter}
 use Rattle.book.specs.declared.Book.{Book}
 use Rattle.book.specs.Book.{Reachable}
-use Rattle.book.proofs.Places.{never}
+use Rattle.laws.proofs.Never.{never}
 use Rattle.answers.specs.Writing.{Puts, answerRoom}
 use Rattle.answers.proofs.Writing.{puts-behind, puts-none}
 use Rattle.protocol.specs.Lines.{longestLine, lineAt, between}

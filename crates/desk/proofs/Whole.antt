@@ -16,7 +16,7 @@ use lib.Signed.{ltZ}
 use borrow.Author.Tests.{ltb-true, ltb-false, lt-ltb}
 use Rattle.book.specs.declared.Book.{Book}
 use Rattle.book.specs.Book.{fresh}
-use Rattle.book.proofs.Places.{never}
+use Rattle.laws.proofs.Never.{never}
 use Rattle.protocol.specs.Lines.{longestLine, lineAt, between}
 use Rattle.protocol.proofs.Parts.{length-between}
 use Rattle.desk.specs.declared.Input.{Input}

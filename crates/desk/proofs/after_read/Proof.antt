@@ -15,7 +15,7 @@ use borrow.Author.Tests.{ltb-true}
 use borrow.Author.Needs.{needs}
 use Rattle.libc.specs.Io.{Moved}
 use Rattle.io.specs.Counts.{clamped}
-use Rattle.book.proofs.Places.{never}
+use Rattle.laws.proofs.Never.{never}
 use Rattle.desk.specs.declared.Input.{Input}
 use Rattle.desk.specs.Desk.{Closes, stopped, grown, AfterRead}
 use Rattle.desk.proofs.after_read.Statement.{statement}

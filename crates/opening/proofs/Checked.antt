@@ -25,7 +25,6 @@ use Rattle.book.specs.Checks.{verdictAnswer}
 use Rattle.book.specs.Settling.{codeCheck, settledIn, emptyCheck, openCheck, refusalOf}
 use Rattle.book.specs.Book.{beyond, placeOf, numbers, withPlace, step, Reachable}
 use Rattle.book.specs.Sound.{tariffIn, Holds}
-use Rattle.book.specs.Promises.{Does}
 use Rattle.book.proofs.Places.{never}
 use Rattle.book.proofs.InForce.{check-refused, figures-are}
 use Rattle.book.proofs.Reached.{reached, tariff-held}

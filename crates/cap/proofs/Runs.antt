@@ -6,7 +6,7 @@ use mathlib.Core.List.{List, [], _∷_, map}
 use Prim.Native.Nat.{ℕ, zero, suc, _+_, _*_, _-_, _<_, _≤_, min}
 use native.Mathlib.Nat.{mul-zero, add-zero, zero-add, mul-assoc, mul-le-mul, le-refl, le-of-suc-le-suc, suc-inj}
 use native.Mathlib.Omega.{arith}
-use lib.ListN.{length, getD, take, replicate}
+use lib.ListN.{length, getD, take}
 use Rattle.laws.proofs.Bounds.{four-most}
 use Rattle.laws.proofs.Parts.{four}
 use Rattle.laws.proofs.Greatest.{Straight}
@@ -15,11 +15,10 @@ use Rattle.tariff.specs.declared.Tariff.{Tariff}
 use Rattle.tariff.specs.Tariff.{wholeShare, validTariff}
 use Rattle.charge.specs.declared.Tiers.{Tiers}
 use Rattle.charge.specs.Charge.{monthMost, tierCharge, monthCharge}
-use Rattle.charge.specs.Most.{monthChargeMost}
 use Rattle.charge.specs.Tiers.{tiersOf, byTiers, Rising, TiersFit}
 use Rattle.charge.proofs.TariffTiers.{month-tiers, month-most, tiers-fit, tiers-most}
 use Rattle.cap.specs.declared.CellNumbers.{CellNumbers}
-use Rattle.cap.specs.Cap.{share, worstMonth, worstMonths}
+use Rattle.cap.specs.Cap.{share, worstMonth}
 use Rattle.cap.specs.Corners.{levelMost, monthChargedMost, cornersTo, cornersOf, Cornered}
 use Rattle.cap.specs.Deciding.{monthCharged, monthCapped}
 

@@ -15,7 +15,7 @@ use Rattle.laws.specs.Notions.{sum}
 use Rattle.laws.proofs.Bounds.{take-most, four-most}
 use Rattle.laws.proofs.Parts.{take-map}
 use Rattle.tariff.specs.declared.Tariff.{Tariff}
-use Rattle.tariff.specs.Tariff.{wholeShare, rateMost, stepMost, ratesWithin, validTariff}
+use Rattle.tariff.specs.Tariff.{wholeShare, rateMost, stepMost, validTariff}
 use Rattle.tariff.proofs.Validity.{valid-rates, rates-at, within-at, rising-at, by-kind, valid-single, valid-multi, valid-n}
 use Rattle.charge.specs.declared.Tiers.{Tiers}
 use Rattle.charge.specs.Charge.{monthMost, ratesInUse, tierSteps, shares, tierCharge, weighted, monthCharge}

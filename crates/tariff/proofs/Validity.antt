@@ -54,13 +54,13 @@ valid-rates x v = parts x v .3
 pub valid-kind : (x : Tariff) → validTariff x ≡ true → validKind x ≡ true
 valid-kind x v = parts x v .4
 
-pub rates-at : (rates : List ℕ) → ratesWithin rates ≡ true → (i : ℕ) → i < 4 → getD rates i 0 ≤ rateMost
-unfolding ratesWithin
-rates-at rates e i h = leb-true (getD rates i 0) rateMost (every-at (λ i. leb (getD rates i 0) rateMost) 4 e i h)
-
 pub within-at : (a : List ℕ) (k low high : ℕ) → within a k low high ≡ true → (i : ℕ) → i < k → (low ≤ getD a i 0) × (getD a i 0 ≤ high)
 unfolding within
 within-at a k low high e i h = between low (getD a i 0) high (every-at (λ i. leb low (getD a i 0) && leb (getD a i 0) high) k e i h)
+
+pub rates-at : (rates : List ℕ) → ratesWithin rates ≡ true → (i : ℕ) → i < 4 → getD rates i 0 ≤ rateMost
+unfolding ratesWithin
+rates-at rates e i h = within-at rates 4 0 rateMost e i h .1
 
 pub rising-at : (a : List ℕ) (k : ℕ) → rising a k ≡ true → (i : ℕ) → i + 1 < k → getD a i 0 < getD a (i + 1) 0
 unfolding rising

@@ -37,18 +37,19 @@ tariffOf x =
       steps = getD x 9 0 ∷ getD x 10 0 ∷ getD x 11 0 ∷ getD x 12 0 ∷ [];
     }
 
+-- the first k numbers are from low to high
+unfoldable pub within : List ℕ → ℕ → ℕ → ℕ → Bool
+within a k low high = every k (λ i. leb low (getD a i 0) && leb (getD a i 0) high)
+
 -- rates in mills per kWh, 0 to 200,000
 unfoldable pub ratesWithin : List ℕ → Bool
-ratesWithin rates = every 4 (λ i. leb (getD rates i 0) rateMost)
+ratesWithin rates = within rates 4 0 rateMost
 
 -- "Places beyond those used are 0": of four places, those from k on
 unfoldable pub zeroFrom : List ℕ → ℕ → Bool
 zeroFrom a k = every 4 (λ i. ltb i k || eqb (getD a i 0) 0)
 
--- the first k numbers are from low to high; they are strictly rising
-unfoldable pub within : List ℕ → ℕ → ℕ → ℕ → Bool
-within a k low high = every k (λ i. leb low (getD a i 0) && leb (getD a i 0) high)
-
+-- the first k numbers rise strictly
 unfoldable pub rising : List ℕ → ℕ → Bool
 rising a k = every (k - 1) (λ i. ltb (getD a i 0) (getD a (i + 1) 0))
 

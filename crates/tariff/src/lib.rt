@@ -6,7 +6,7 @@ ghost use mathlib.Core.Path.{_≡_};
 ghost use Prim.Native.Nat.{_≤_};
 ghost use lib.ListN.{length, take};
 ghost use Rattle.laws.specs.Notions.{sum};
-ghost use Rattle.tariff.specs.Tariff.{tariffOf, ratesWithin, zeroFrom, within, rising, singleRegister, economy7, multiRegister, validTariff, recordCheck};
+ghost use Rattle.tariff.specs.Tariff.{tariffOf, zeroFrom, within, rising, singleRegister, economy7, multiRegister, validTariff, recordCheck};
 use refusal::Check;
 
 // What the shares of the registers add up to, the base of the percentages, and the same as a factor of charges; the most of a rate,
@@ -46,20 +46,6 @@ pub fn tariff_of(x: &[u32]) -> Tariff
         rates: [x[5], x[6], x[7], x[8]],
         steps: [x[9], x[10], x[11], x[12]],
     }
-}
-
-// Each rate is at most the greatest.
-fn rates_within(rates: [u32; 4]) -> bool
-    ensures { λ r. ⌜ r ≡ ratesWithin rates ⌝ }
-{
-    let mut i: usize = 0;
-    while i < 4 {
-        if RATE_MOST < rates[i] {
-            return false;
-        }
-        i += 1;
-    }
-    true
 }
 
 // The places from k on are 0.
@@ -195,7 +181,7 @@ fn is_valid(x: Tariff) -> bool
     if 3 < x.methods {
         return false;
     }
-    if !rates_within(rates) {
+    if !all_within(rates, 4, 0, RATE_MOST) {
         return false;
     }
     let kind = x.kind;

@@ -68,18 +68,17 @@ numbers-are b r a p standing at e is low up m t d s k =
     let u : e .upper ≡ getD (b .charges) (figureIndex r a p 1) 0 = up ∙ ap (λ (i : ℕ). getD (b .charges) i 0) next in
     λ i. record { lower = l i; upper = u i; m = m i; months = t i; days = d i; standing = s i; peak = k i }
 
--- the numbers of a tariff's cell, as the code reads them
-module _ (b : Benchmarks) (x : Tariff) (h : Lawful b) (v : validTariff x ≡ true) (r p a : ℕ) (hr : r < 14) (hp : p < 2) (ia : a ≡ arrangement x)
-    (e : CellNumbers) (is : e ≡ cellNumbers b a (x .standing) (cell r p)) where
-  pub tariff-numbers : e ≡ tariffNumbers b x (cell r p)
-  tariff-numbers = is ∙ ap (λ (i : ℕ). cellNumbers b i (x .standing) (cell r p)) ia
-
-  pub tariff-fits : Fits e
-  tariff-fits = subst Fits (sym tariff-numbers) (numbers-fit b h r (arrangement x) p (x .standing) hr (arrangement-small x) hp (valid-standing x v))
-
-  pub tariff-cornered : (m : ℕ) (k : Corners) → m ≡ getD (b .levels) a 0 → Cornered peakShare x m k → Cornered (e .peak) x (e .m) k
-  unfolding cellNumbers
-  tariff-cornered m k l c = subst (λ (d : CellNumbers). Cornered (d .peak) x (d .m) k) (sym is) (subst (λ (n : ℕ). Cornered peakShare x n k) l c)
+-- the numbers of a tariff's cell, as the code reads them: they fit, and the corners of the tariff are those that it has there
+pub cell-read : (b : Benchmarks) (x : Tariff) → Lawful b → validTariff x ≡ true → (r p a : ℕ) → r < 14 → p < 2 → a ≡ arrangement x
+    → (e : CellNumbers) → e ≡ cellNumbers b a (x .standing) (cell r p) → (m : ℕ) (k : Corners) → m ≡ getD (b .levels) a 0 → Cornered peakShare x m k
+    → (e ≡ tariffNumbers b x (cell r p)) × Cornered (e .peak) x (e .m) k × Fits e
+unfolding cellNumbers
+cell-read b x h v r p a hr hp ia e is m k l c =
+    let same : e ≡ tariffNumbers b x (cell r p) = is ∙ ap (λ (i : ℕ). cellNumbers b i (x .standing) (cell r p)) ia in (
+      same,
+      subst (λ (d : CellNumbers). Cornered (d .peak) x (d .m) k) (sym is) (subst (λ (n : ℕ). Cornered peakShare x n k) l c),
+      subst Fits (sym same) (numbers-fit b h r (arrangement x) p (x .standing) hr (arrangement-small x) hp (valid-standing x v)),
+    )
 
 module _ (b : Benchmarks) (x : Tariff) where
   -- no hit at a cell that is not offered

@@ -1,12 +1,12 @@
 -- `cap::compared` meets its contract: the best corner is the worst month, with both sides for t of it.
 -- Assumes nothing.
-use mathlib.Core.Path.{_≡_, _∙_, ap₂}
+use mathlib.Core.Path.{_≡_, _∙_}
 use Prim.Native.Nat.{_+_, _*_, _-_, _≤_}
 use native.Mathlib.Omega.{arith}
 use lib.ListN.{length}
 use Rattle.tariff.specs.Tariff.{wholeShare}
-use Rattle.cap.specs.Cap.{capped, worstMonth, worstMonths}
-use Rattle.cap.specs.Deciding.{monthCharged, monthCapped}
+use Rattle.cap.specs.Cap.{worstMonth}
+use Rattle.cap.specs.Deciding.{monthCharged}
 use Rattle.cap.specs.Corners.{monthChargedMost, room, Raised}
 use Rattle.cap.proofs.Runs.{price-nought, price-most, scan-is-worst}
 use Rattle.cap.proofs.Comparing.{both-raised}

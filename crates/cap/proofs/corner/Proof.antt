@@ -1,10 +1,8 @@
 -- `cap::corner` meets its contract: a corner is a step of the tiers or their end, and none is past the end.
 -- Assumes nothing.
-use mathlib.Core.Path.{_≡_, sym, _∙_}
-use Prim.Native.Nat.{_-_, _<_, _≤_}
+use mathlib.Core.Path.{sym, _∙_}
+use Prim.Native.Nat.{_-_}
 use native.Mathlib.Omega.{arith}
-use lib.ListN.{getD}
-use Rattle.cap.specs.Corners.{cornersOf}
 use Rattle.cap.proofs.Runs.{step-corner, end-corner, corner-below}
 use borrow.Author.Needs.{needs}
 use Rattle.cap.proofs.corner.Statement.{statement}

@@ -6,7 +6,7 @@ use lib.Dec.{leb}
 use borrow.Author.Needs.{needs}
 use borrow.Author.Tests.{le-leb, lt-leb, not-true, not-false}
 use Rattle.laws.proofs.Every.{and-both}
-use Rattle.tariff.specs.Tariff.{standingMost, validKind, validTariff}
+use Rattle.tariff.specs.Tariff.{standingMost, ratesWithin, validKind, validTariff}
 use Rattle.tariff.specs.declared.Tariff.{Tariff}
 use Rattle.tariff.proofs.ByKind.{single, double, multiple, no-kind}
 use Rattle.tariff.proofs.is_valid.Statement.{statement}
@@ -42,8 +42,8 @@ methods c =
 
 -- behind all tests but the kind's
 kind : (c : tie.Else6) → validTariff (x₆ c) ≡ validKind (x₆ c)
-unfolding validTariff
-kind c = rw (methods (c .before .before), sym (c .before .rates-within .ensures) ∙ not-false _ (c .if6 .left))
+unfolding validTariff ratesWithin
+kind c = rw (methods (c .before .before), sym (c .before .all-within .ensures) ∙ not-false _ (c .if6 .left))
 
 returns : tie.Need-returns
 unfolding validTariff
@@ -69,12 +69,12 @@ returns-5 c =
     let l = c .before .before in
     rw (regions (l .before .before), le-leb _ _ (l .if4 .left), lt-leb _ _ (c .if5 .taken))
 
-rates-within-requires : tie.Need-rates-within-requires
-rates-within-requires c κs = search needs
+all-within-requires : tie.Need-all-within-requires
+all-within-requires c κs = search needs
 
 returns-6 : tie.Need-returns-6
-unfolding validTariff
-returns-6 c = rw (methods (c .before .before), sym (c .before .rates-within .ensures) ∙ not-true _ (c .if6 .taken))
+unfolding validTariff ratesWithin
+returns-6 c = rw (methods (c .before .before), sym (c .before .all-within .ensures) ∙ not-true _ (c .if6 .taken))
 
 single-register-requires : tie.Need-single-register-requires
 single-register-requires c κs = search needs
@@ -114,7 +114,7 @@ is-valid-spec =
     returns-3
     returns-4
     returns-5
-    rates-within-requires
+    all-within-requires
     returns-6
     single-register-requires
     economy-7-requires

@@ -1,14 +1,13 @@
 -- `verdict::first_over` meets its contract. The invariant of each loop: no cell before the one at hand exceeds.
 -- Assumes nothing.
 use mathlib.Core.Path.{_≡_, refl, sym, _∙_}
-use mathlib.Core.Bool.{Bool}
 use mathlib.Core.Logic.{⊎-elim}
 use mathlib.Core.Option.{none}
 use Prim.Native.Nat.{_+_, _-_, _*_, _<_, _≤_}
 use native.Mathlib.Omega.{arith}
 use Rattle.cap.specs.Corners.{Cornered, Fits}
 use Rattle.verdict.specs.Cells.{exceedsAt, firstBelow, tariffNumbers, cell}
-use Rattle.verdict.proofs.Walk.{tariff-numbers, tariff-fits, tariff-cornered, not-method, in-cell, passed, region-starts, region-ends, region-passed, walked, over-cell}
+use Rattle.verdict.proofs.Walk.{cell-read, not-method, in-cell, passed, region-starts, region-ends, region-passed, walked, over-cell}
 use borrow.Author.Needs.{needs}
 use Rattle.verdict.proofs.first_over.Statement.{statement}
 use Rattle.verdict.proofs.first_over.Tie as tie
@@ -30,22 +29,13 @@ module _ (c : tie.After-cell-numbers Inv-loop μ-loop Inv-walk μ-walk) where
   in-region : c .before .before .before .before .before .before .before .before .before .walk .region < 14
   in-region = omega (arith, c .before .before .before .before .before .before .before .before .if1 .left)
 
-  numbers : let a = c .before .before .before .before .before .before .before .before .before .before .before .before .before .before .before .args in c .cell-numbers .result ≡ tariffNumbers (a .b) (a .x) (cell (c .before .before .before .before .before .before .before .before .before .walk .region) (c .before .before .before .before .before .loop .method))
-  numbers =
+  read : let a = c .before .before .before .before .before .before .before .before .before .before .before .before .before .before .before .args in
+      (c .cell-numbers .result ≡ tariffNumbers (a .b) (a .x) (cell (c .before .before .before .before .before .before .before .before .before .walk .region) (c .before .before .before .before .before .loop .method)))
+      × Cornered (c .cell-numbers .result .peak) (a .x) (c .cell-numbers .result .m) (c .before .before .before .before .before .before .before .before .before .before .corners-of .result)
+      × Fits (c .cell-numbers .result)
+  read =
       let st = c .before .before .before .before .before .before .before .before .before .before .before .before .before .before .before in
-      tariff-numbers (st .args .b) (st .args .x) (st .pre .0) (st .pre .1) _ _ _ in-region (c .before .before .before .before .loop-test .taken) (c .before .before .before .before .before .before .before .before .before .before .before .before .arrangement-of .ensures .0) _
-      (c .cell-numbers .ensures (st .args .b) refl refl refl refl)
-
-  fits : Fits (c .cell-numbers .result)
-  fits =
-      let st = c .before .before .before .before .before .before .before .before .before .before .before .before .before .before .before in
-      tariff-fits (st .args .b) (st .args .x) (st .pre .0) (st .pre .1) _ _ _ in-region (c .before .before .before .before .loop-test .taken) (c .before .before .before .before .before .before .before .before .before .before .before .before .arrangement-of .ensures .0) _
-      (c .cell-numbers .ensures (st .args .b) refl refl refl refl)
-
-  tariffs : Cornered (c .cell-numbers .result .peak) (c .before .before .before .before .before .before .before .before .before .before .before .before .before .before .before .args .x) (c .cell-numbers .result .m) (c .before .before .before .before .before .before .before .before .before .before .corners-of .result)
-  tariffs =
-      let st = c .before .before .before .before .before .before .before .before .before .before .before .before .before .before .before in
-      tariff-cornered (st .args .b) (st .args .x) (st .pre .0) (st .pre .1) _ _ _ in-region (c .before .before .before .before .loop-test .taken) (c .before .before .before .before .before .before .before .before .before .before .before .before .arrangement-of .ensures .0) _
+      cell-read (st .args .b) (st .args .x) (st .pre .0) (st .pre .1) _ _ _ in-region (c .before .before .before .before .loop-test .taken) (c .before .before .before .before .before .before .before .before .before .before .before .before .arrangement-of .ensures .0) _
       (c .cell-numbers .ensures (st .args .b) refl refl refl refl) _ _ (c .before .before .before .before .before .before .before .before .before .before .before .wide .ensures) (c .before .before .before .before .before .before .before .before .before .before .corners-of .ensures)
 
 -- so the answer is that of the cell
@@ -57,7 +47,7 @@ decides c =
     in-cell (a .b) (a .x) _ _ (n .before .before .before .before .loop-test .taken)
     (sym (n .before .before .before .before .before .before .before .has .ensures) ∙ n .before .before .before .before .before .before .if2 .taken)
     (sym (n .before .before .before .has2 .ensures) ∙ n .before .before .if3 .taken)
-    _ (numbers n) _ (c .exceeds .ensures)
+    _ (read n .0) _ (c .exceeds .ensures)
 
 arrangement-of-requires : tie.Need-arrangement-of-requires Inv-loop μ-loop Inv-walk μ-walk
 arrangement-of-requires c κs = search needs
@@ -96,7 +86,7 @@ cell-numbers-requires : tie.Need-cell-numbers-requires Inv-loop μ-loop Inv-walk
 cell-numbers-requires c κs = search needs
 
 exceeds-requires : tie.Need-exceeds-requires Inv-loop μ-loop Inv-walk μ-walk
-exceeds-requires c κs = (c .before .before .before .before .before .before .before .before .before .before .before .before .before .before .before .pre .1, tariffs c, fits c)
+exceeds-requires c κs = (c .before .before .before .before .before .before .before .before .before .before .before .before .before .before .before .pre .1, read c .1, read c .2)
 
 add-method : tie.Need-add-method Inv-loop μ-loop Inv-walk μ-walk
 add-method c = search needs

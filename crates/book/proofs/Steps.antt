@@ -5,8 +5,9 @@ use mathlib.Core.Bool.{Bool, true, false, cond}
 use mathlib.Core.List.{List, [], _∷_}
 use mathlib.Core.Option.{Option}
 use Prim.Native.Nat.{ℕ, zero, suc}
-use lib.ListN.{getD, set, replicate}
+use lib.ListN.{getD, set}
 use Rattle.laws.proofs.Never.{never}
+use Rattle.laws.proofs.Lists.{noughts}
 use Rattle.refusal.specs.declared.Check.{Check}
 use Rattle.refusal.specs.declared.Check.the-variants.{Pass, Refuse}
 use Rattle.refusal.specs.Checks.{unless, first, checked, need}
@@ -19,7 +20,6 @@ use Rattle.book.specs.Checks.{Holding, inside, answer}
 use Rattle.book.specs.Book.{beyond, placeOf, held, bookReadings, withPlaces, withPlace, changed, after, step}
 use Rattle.book.specs.Promises.{Does}
 use Rattle.book.specs.Settling.{codeCheck, settledBy, doneBy, settledIn, Settles}
-use Rattle.book.proofs.Accepted.{need-accepted}
 
 -- "Any call refused changes nothing", and the book after an accepted one
 module _ (b : Book) (c : Call) (a : Answer) where
@@ -34,12 +34,6 @@ module _ (b : Book) (c : Call) (a : Answer) where
 pub answered-by : (b : Book) (c : Call) → step b c .answer ≡ answer (bookReadings b) (c .act)
 unfolding step
 answered-by b c = refl
-
--- an answer without months has zeros beside it
-pub noughts : (n i : ℕ) → _≡_ {A = ℕ} (getD (replicate n 0) i 0) 0
-noughts zero i = refl
-noughts (suc n) zero = refl
-noughts (suc n) (suc i) = noughts n i
 
 -- SET: refused, or accepted with the book that it leaves
 module _ (b : Book) (s : Sheet) where

@@ -1,10 +1,9 @@
 -- The checks of SET, PUT, OPEN, CLOSE and DROP: a line a call, in document 01's order.
 -- Assumes nothing.
-use mathlib.Core.Bool.{Bool, true, false, not, _&&_}
+use mathlib.Core.Bool.{Bool, false, not, _&&_}
 use mathlib.Core.Option.{Option, none, some}
 use Prim.Native.Nat.{ℕ}
 use lib.Dec.{leb}
-use Rattle.refusal.specs.declared.Check.{Check}
 use Rattle.refusal.specs.Checks.{checked, need, given}
 use Rattle.benchmark.specs.declared.Benchmarks.{Benchmarks}
 use Rattle.benchmark.specs.Benchmark.{benchmarksOf, setCheck}

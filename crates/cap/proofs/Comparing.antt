@@ -93,11 +93,11 @@ past-months (suc t) month rest z (suc i) h = past-months t month rest z i (omega
 rest-zero : (t month n i : ℕ) → t ≤ i → _≡_ {A = ℕ} (getD (replicate t month ++ drop t (replicate n 0)) i 0) 0
 rest-zero t month n = past-months t month (drop t (replicate n 0)) (λ j. getD-drop t (replicate n 0) j 0 ∙ noughts n (t + j))
 
-pub carried : (e : CellNumbers) (x : Tariff) (w : Comparison) → Compares e x w → Exceeds e x → (months : List ℕ)
+pub worst-carried : (e : CellNumbers) (x : Tariff) (w : Comparison) → Compares e x w → Exceeds e x → (months : List ℕ)
     → months ≡ replicate (e .months) (w .month) ++ drop (e .months) (replicate monthsMost 0)
     → Carries e x (record { months = months; excess = w .charged - w .capped })
 unfolding worstMonths
-carried e x w h k months is =
+worst-carried e x w h k months is =
     record {
       months = ap (take (e .months)) is ∙ months-taken (e .months) (w .month) _ ∙ ap (replicate (e .months)) (h .month-is);
       rest = λ i l. ap (λ (ms : List ℕ). getD ms i 0) is ∙ rest-zero (e .months) (w .month) monthsMost i l;

@@ -5,6 +5,7 @@ use mathlib.Core.Bool.{Bool, true, false, not, cond}
 use Prim.Native.Nat.{ℕ, suc, _<_}
 use lib.ListN.{getD}
 use Rattle.laws.proofs.Never.{never}
+use Rattle.laws.proofs.Lists.{noughts}
 use Rattle.refusal.specs.declared.Check.{Check}
 use Rattle.refusal.specs.declared.Check.the-variants.{Pass, Refuse}
 use Rattle.refusal.specs.Checks.{unless, first, checked, need, given}
@@ -19,12 +20,12 @@ use Rattle.book.specs.declared.Place.{Place}
 use Rattle.book.specs.declared.Settled.{Settled}
 use Rattle.book.specs.declared.Book.{Book}
 use Rattle.book.specs.Calls.{Sheet, Record, PUT, call, Answer, accepted, refused, isAccepted}
-use Rattle.book.specs.Checks.{isOpen, figuresOf, inside, verdictAnswer, answer, putAnswer, openAnswer, closeAnswer, dropAnswer}
-use Rattle.book.specs.Book.{placeWith, tariffIn, beyond, placeOf, heldIn, held, sheetIf, sheetIn, inForce, bookReadings, withPlace, changed}
+use Rattle.book.specs.Checks.{isOpen, figuresOf, inside, verdictAnswer, answer}
+use Rattle.book.specs.Book.{placeWith, tariffIn, beyond, placeOf, heldIn, sheetIf, sheetIn, inForce, bookReadings, withPlace, changed}
 use Rattle.book.specs.Promises.{answerOf, NoughtPast, Does}
-use Rattle.book.specs.Settling.{codeCheck, isOpenState, emptyCheck, openCheck, closedCheck, heldCheck, settledBy, settledIn, Settles}
-use Rattle.book.proofs.Steps.{noughts, settles, read-there, settles-does}
-use Rattle.stands.specs.Stands.{Holds, HoldsAs}
+use Rattle.book.specs.Settling.{codeCheck, emptyCheck, openCheck, closedCheck, heldCheck, settledBy, settledIn, Settles}
+use Rattle.book.proofs.Steps.{settles, read-there, settles-does}
+use Rattle.stands.specs.Stands.{HoldsValid, HoldsValidAs}
 use Rattle.stands.proofs.InForce.{figures-are, figures-lawful, holds-at}
 use Rattle.codes.specs.declared.CodeAct.{CodeAct}
 use Rattle.codes.specs.declared.CodeAct.the-variants as act
@@ -122,12 +123,12 @@ passed-by check next a p q r e f g h z =
     subst (λ c. Settles c next p q r) (sym e) (subst (λ n. Settles Pass n p q r) (sym f) (record { answers = g; leaves = h; rest-nought = z }))
 
 -- what has passed OPEN's checks is a draft, and a sheet is loaded
-draft : (s : State) (x : Tariff) → emptyCheck s ≡ Pass → openCheck s ≡ Pass → HoldsAs s x → validTariff x ≡ true
+draft : (s : State) (x : Tariff) → emptyCheck s ≡ Pass → openCheck s ≡ Pass → HoldsValidAs s x → validTariff x ≡ true
 draft Empty x e f h = never (cc)
 draft Draft x e f h = h
 draft Open x e f h = never (cc)
 
-pub open-passed : (k : ℕ) (p : Place) (loaded : Bool) → Holds p → heldCheck k (p .state) (restOn act.Open (p .state) loaded) ≡ Pass
+pub open-passed : (k : ℕ) (p : Place) (loaded : Bool) → HoldsValid p → heldCheck k (p .state) (restOn act.Open (p .state) loaded) ≡ Pass
     → (validTariff (tariffIn p) ≡ true) × (loaded ≡ true)
 open-passed k p loaded h e =
     let past-6 = first-passes (codeCheck k) _ e .1 in

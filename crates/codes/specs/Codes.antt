@@ -20,7 +20,7 @@ use Rattle.book.specs.Calls.{Record, Act, OPEN, CLOSE, DROP, Answer, accepted}
 use Rattle.book.specs.Checks.{verdictAnswer}
 use Rattle.book.specs.Book.{empty, tariffIn, withState, Reachable}
 use Rattle.book.specs.Settling.{codeCheck, openCheck, closedCheck, heldCheck, Settles}
-use Rattle.stands.specs.Stands.{Holds}
+use Rattle.stands.specs.Stands.{HoldsValid}
 use Rattle.codes.specs.declared.CodeAct.{CodeAct}
 use Rattle.codes.specs.declared.CodeAct.the-variants.{Open, Close, Drop}
 
@@ -52,7 +52,7 @@ SettlesOn a k p loaded figures r =
 
 -- only OPEN judges a tariff, and asks something of the place and the figures, and of the book
 abbrev pub Judgeable : CodeAct → Place → Bool → Benchmarks → Type 0
-Judgeable Open p loaded figures = (loaded ≡ true → Lawful figures) × Holds p
+Judgeable Open p loaded figures = (loaded ≡ true → Lawful figures) × HoldsValid p
 Judgeable Close p loaded figures = Unit {0}
 Judgeable Drop p loaded figures = Unit {0}
 

@@ -10,7 +10,7 @@ ghost use Rattle.book.specs.Calls.{PUT, call, accepted};
 ghost use Rattle.book.specs.Book.{placeWith};
 ghost use Rattle.book.specs.Promises.{Does};
 ghost use Rattle.book.specs.Settling.{Settles};
-ghost use Rattle.stands.specs.Stands.{Holds};
+ghost use Rattle.stands.specs.Stands.{HoldsValid};
 ghost use Rattle.codes.specs.Codes.{actOn, SettlesOn, Judgeable, Handed, putChecks};
 use benchmark::Benchmarks;
 use book::Book;
@@ -31,7 +31,7 @@ pub enum CodeAct {
 
 // OPEN (code). 6, 9, 7, 10, 11. Else open; the answer carries the number of cells.
 fn open_at(code: u32, p: Place, loaded: bool, figures: Benchmarks) -> Settled
-    requires { ⌜ (loaded ≡ true → Lawful figures) × Holds p ⌝ }
+    requires { ⌜ (loaded ≡ true → Lawful figures) × HoldsValid p ⌝ }
     ensures { λ r. ⌜ SettlesOn CodeAct.Open code p loaded figures r ⌝ }
 {
     let shut = book::open_check(p);

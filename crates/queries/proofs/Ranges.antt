@@ -28,8 +28,8 @@ within r a p last e =
       fourth = and-right (inRanges r a p) last e;
     }
 
-pub total-most : (r a p n : ℕ) → (inRanges r a p && leb n 120000) ≡ true → n ≤ 120000
-total-most r a p n e = leb-true n 120000 (within r a p (leb n 120000) e .fourth)
+pub total-in-range : (r a p n : ℕ) → (inRanges r a p && leb n 120000) ≡ true → n ≤ 120000
+total-in-range r a p n e = leb-true n 120000 (within r a p (leb n 120000) e .fourth)
 
 -- those of QUOTE
 pub cell-within : (x : Tariff) (r p : ℕ) → cellAllowed x r p ≡ true → (r < 14) × (p < 2)

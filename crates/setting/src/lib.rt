@@ -9,7 +9,7 @@ ghost use Rattle.benchmark.specs.Lawful.{Lawful};
 ghost use Rattle.book.specs.Calls.{SET, sheetAt, call};
 ghost use Rattle.book.specs.Book.{beyond, under, Reachable};
 ghost use Rattle.book.specs.Promises.{Does};
-ghost use Rattle.stands.specs.Stands.{Holds};
+ghost use Rattle.stands.specs.Stands.{HoldsValid};
 use benchmark::Benchmarks;
 use book::Book;
 use book::Done;
@@ -21,7 +21,7 @@ use verdict::Found;
 
 // A place under the figures of a new sheet: an open tariff that exceeds somewhere becomes a draft.
 fn judged(p: Place, figures: Benchmarks) -> Place
-    requires { ⌜ Lawful figures × Holds p ⌝ }
+    requires { ⌜ Lawful figures × HoldsValid p ⌝ }
     ensures { λ r. ⌜ r ≡ under figures p ⌝ }
 {
     let state = p.state;
@@ -40,7 +40,7 @@ fn judged(p: Place, figures: Benchmarks) -> Place
 
 // All places under the figures of a new sheet.
 fn all_judged(places: [Place; 32], figures: Benchmarks) -> [Place; 32]
-    requires { ⌜ Lawful figures × ((i : ℕ) → i < 32 → Holds (getD places i beyond)) ⌝ }
+    requires { ⌜ Lawful figures × ((i : ℕ) → i < 32 → HoldsValid (getD places i beyond)) ⌝ }
     ensures { λ r. ⌜ r ≡ map (under figures) places ⌝ }
 {
     let mut next = places;

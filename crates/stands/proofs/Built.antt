@@ -17,13 +17,13 @@ use Rattle.book.specs.declared.State.{State}
 use Rattle.book.specs.declared.State.the-variants.{Empty, Draft, Open}
 use Rattle.book.specs.declared.Place.{Place}
 use Rattle.book.specs.declared.Book.{Book}
-use Rattle.book.specs.Calls.{Sheet, Record, SET, PUT, OPEN, call, Answer, accepted, opened, refused}
-use Rattle.book.specs.Checks.{Holding, figuresOf, inside, verdictAnswer, putAnswer, openAnswer}
+use Rattle.book.specs.Calls.{Sheet, Record, SET, PUT, OPEN, call, accepted, opened, refused}
+use Rattle.book.specs.Checks.{figuresOf, inside, putAnswer, openAnswer}
 use Rattle.book.specs.Book.{empty, placeWith, tariffIn, withState, fresh, beyond, held, sheetIf, sheetIn, inForce, withPlaces, withPlace, under, changed, Reachable}
 use Rattle.book.proofs.Places.{in-range}
 use Rattle.book.proofs.Reached.{fresh-reachable, step-reachable}
 use Rattle.book.proofs.Steps.{made}
-use Rattle.stands.specs.Stands.{Recorded, MayOpen, FitsAs, Fits, Stands}
+use Rattle.stands.specs.Stands.{Recorded, MayOpen, MayStandAs, MayStand, Stands}
 
 -- the book with places xs, then p, then ys is reachable
 abbrev Reached : Book → List Place → Place → List Place → Type 0
@@ -63,13 +63,13 @@ module _ (b : Book) (xs ys : List Place) (within : length xs < 32) where
   draft-there : (x : Tariff) → Recorded x → Reached b xs empty ys → Reached b xs (placeWith Draft x) ys
   draft-there x h r = rw (h .2) (put-there (h .0) (h .1) r)
 
-  place-there : (q : State) (p : Place) → p .state ≡ q → FitsAs (inForce b) q p → Reached b xs empty ys → Reached b xs p ys
+  place-there : (q : State) (p : Place) → p .state ≡ q → MayStandAs (inForce b) q p → Reached b xs empty ys → Reached b xs p ys
   place-there Empty p s h r = rw h r
   place-there Draft p s h r = subst (λ q. Reached b xs (placeWith q (tariffIn p)) ys) (sym s) (draft-there (tariffIn p) h r)
   place-there Open p s h r = subst (λ q. Reached b xs (placeWith q (tariffIn p)) ys) (sym s) (open-there (tariffIn p) (h .1) (draft-there (tariffIn p) (h .0) r))
 
 -- all places: xs stand already, and ps come in place of as many empty ones
-fill : (b : Book) (xs ps : List Place) → length xs + length ps ≡ 32 → ((i : ℕ) → i < length ps → Fits (inForce b) (getD ps i beyond))
+fill : (b : Book) (xs ps : List Place) → length xs + length ps ≡ 32 → ((i : ℕ) → i < length ps → MayStand (inForce b) (getD ps i beyond))
     → Reachable (withPlaces b (xs ++ replicate (length ps) empty)) → Reachable (withPlaces b (xs ++ ps))
 fill b xs [] e h r = r
 fill b xs (p ∷ ps) e h r =

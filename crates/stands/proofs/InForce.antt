@@ -22,7 +22,7 @@ use Rattle.book.specs.Book.{beyond, tariffIn, sheetIn, inForce, Reachable}
 use Rattle.book.specs.Settling.{emptyCheck}
 use Rattle.book.proofs.Places.{in-range, record-valid}
 use mathlib.Core.Option.{Option}
-use Rattle.stands.specs.Stands.{Recorded, FitsAs, HoldsAs, Holds}
+use Rattle.stands.specs.Stands.{Recorded, MayStandAs, HoldsValidAs, HoldsValid}
 use Rattle.stands.proofs.Kept.{reachable-stands}
 
 -- a tariff that PUT accepts is valid
@@ -37,18 +37,18 @@ module _ (b : Book) (from : Reachable b) where
     pub figures-lawful : Lawful (b .benchmarks)
     figures-lawful = subst Lawful (sym figures-are) (lawful (b .fields) (b .period) (reachable-stands b from .with-sheet loaded .0))
 
-  holds : (s : Option Sheet) (q : State) (p : Place) → FitsAs s q p → HoldsAs q (tariffIn p)
+  holds : (s : Option Sheet) (q : State) (p : Place) → MayStandAs s q p → HoldsValidAs q (tariffIn p)
   holds s Empty p f = tt
   holds s Draft p f = recorded-valid (tariffIn p) f
   holds s Open p f = recorded-valid (tariffIn p) (f .0)
 
-  pub holds-at : (i : ℕ) → i < 32 → Holds (getD (b .places) i beyond)
+  pub holds-at : (i : ℕ) → i < 32 → HoldsValid (getD (b .places) i beyond)
   holds-at i h =
       let p = getD (b .places) i beyond in
       holds (inForce b) (p .state) p (reachable-stands b from .places (suc i) (in-range (suc i) (omega arith) (omega arith)))
 
   -- so a place that is not empty holds a valid one
-  filled : (q : State) (x : Tariff) → HoldsAs q x → emptyCheck q ≡ Pass → validTariff x ≡ true
+  filled : (q : State) (x : Tariff) → HoldsValidAs q x → emptyCheck q ≡ Pass → validTariff x ≡ true
   filled Empty x h e = never (cc)
   filled Draft x h e = h
   filled Open x h e = h

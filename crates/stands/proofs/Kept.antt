@@ -8,7 +8,6 @@ use native.Mathlib.Omega.{arith}
 use lib.Dec.{eqb}
 use lib.ListN.{length-map, length-replicate, getD-replicate}
 use Rattle.laws.proofs.Never.{never}
-use Rattle.refusal.specs.declared.Check.the-variants.{Pass}
 use Rattle.benchmark.specs.Benchmark.{setCheck}
 use Rattle.tariff.specs.declared.Tariff.{Tariff}
 use Rattle.verdict.specs.Cells.{Cell, firstOver}
@@ -22,10 +21,10 @@ use Rattle.book.specs.Book.{empty, tariffIn, withState, fresh, beyond, placeOf,
 use Rattle.book.proofs.Places.{code-range, at-set, length-setPlace, at-map}
 use Rattle.book.proofs.Accepted.{checked-accepted, put-accepted, close-accepted, drop-accepted, open-accepted}
 use Rattle.book.proofs.Reached.{always}
-use Rattle.stands.specs.Stands.{Recorded, MayOpen, FitsAs, Fits, Stands}
+use Rattle.stands.specs.Stands.{Recorded, MayOpen, MayStandAs, MayStand, Stands}
 
 -- a place that holds something holds the tariff of a record that passes refusal 8, and one that may be open where it is
-pub held-fits : (f : Option Sheet) (s : State) (p : Place) → FitsAs f s p → (h : Holding) → heldIn s (tariffIn p) ≡ some h
+pub held-fits : (f : Option Sheet) (s : State) (p : Place) → MayStandAs f s p → (h : Holding) → heldIn s (tariffIn p) ≡ some h
     → Recorded (tariffIn p) × (tariffIn p ≡ h .tariff) × (h .isOpen ≡ true → MayOpen f (tariffIn p))
 held-fits f Empty p w h e = never (cc)
 held-fits f Draft p w h e =
@@ -38,12 +37,12 @@ none-of : (o : Option Cell) → isNone o ≡ true → o ≡ none
 none-of none e = refl
 none-of (some c) e = never (cc)
 
-fits-under : (f : Option Sheet) (s : Sheet) (q : State) (p : Place) → FitsAs f q p → Fits (some s) (withState (stateUnder (figuresOf s) q (tariffIn p)) p)
+fits-under : (f : Option Sheet) (s : Sheet) (q : State) (p : Place) → MayStandAs f q p → MayStand (some s) (withState (stateUnder (figuresOf s) q (tariffIn p)) p)
 fits-under f s Empty p h = ap (withState Empty) h
 fits-under f s Draft p h = h
 fits-under f s Open p h = go (complies (figuresOf s) (tariffIn p)) refl
   where
-    go : (t : Bool) → complies (figuresOf s) (tariffIn p) ≡ t → Fits (some s) (withState (openIf t) p)
+    go : (t : Bool) → complies (figuresOf s) (tariffIn p) ≡ t → MayStand (some s) (withState (openIf t) p)
     go true e = (h .0, none-of (firstOver (figuresOf s) (tariffIn p)) e)
     go false e = h .0
 
@@ -52,16 +51,16 @@ may-open : (f : Option Sheet) (s : Sheet) (x y : Tariff) → f ≡ some s → x 
 may-open f s x y e g h = subst (λ o. MayOpen o x) (sym e) (ap (firstOver (figuresOf s)) g ∙ h)
 
 -- one place is set
-stands-place : (b : Book) (k : ℕ) (p : Place) → Stands b → inside k ≡ true → Fits (inForce b) p → Stands (withPlace b k p)
+stands-place : (b : Book) (k : ℕ) (p : Place) → Stands b → inside k ≡ true → MayStand (inForce b) p → Stands (withPlace b k p)
 stands-place b k p h r q =
     record {
       size = length-setPlace (b .places) k p ∙ h .size;
-      places = λ j o. subst (Fits (inForce b)) (sym (at-set (λ d. d) (b .places) p (h .size) k j (code-range k r))) (either j o (eqb k j));
+      places = λ j o. subst (MayStand (inForce b)) (sym (at-set (λ d. d) (b .places) p (h .size) k j (code-range k r))) (either j o (eqb k j));
       without-sheet = h .without-sheet;
       with-sheet = h .with-sheet;
     }
   where
-    either : (j : ℕ) → inside j ≡ true → (t : Bool) → Fits (inForce b) (cond t p (placeOf (b .places) j))
+    either : (j : ℕ) → inside j ≡ true → (t : Bool) → MayStand (inForce b) (cond t p (placeOf (b .places) j))
     either j o true = q
     either j o false = h .places j o
 
@@ -72,7 +71,7 @@ stands-changed b h (SET s) e =
       size = length-map (b .places) (under (figuresOf s)) ∙ h .size;
       places = λ k o.
           let p = placeOf (b .places) k in
-          subst (Fits (some s)) (sym (at-map (figuresOf s) (b .places) k)) (fits-under (inForce b) s (p .state) p (h .places k o));
+          subst (MayStand (some s)) (sym (at-map (figuresOf s) (b .places) k)) (fits-under (inForce b) s (p .state) p (h .places k o));
       without-sheet = λ l. never (cc);
       with-sheet = λ l. (checked-accepted (setCheck (s .fields) (s .period)) accepted e .0, refl);
     }
@@ -90,7 +89,7 @@ stands-changed b h (CLOSE k) e =
     stands-place b k (withState Draft p) h (f .0) (held-fits (inForce b) (p .state) p (h .places k (f .0)) (f .1) (f .2) .0)
 stands-changed b h (DROP k) e = stands-place b k empty h (drop-accepted k (held (placeOf (b .places) k)) e) refl
 
-fresh-fits : (k : ℕ) → inside k ≡ true → Fits none (placeOf (fresh .places) k)
+fresh-fits : (k : ℕ) → inside k ≡ true → MayStand none (placeOf (fresh .places) k)
 fresh-fits zero o = absurd (omega (arith, code-range 0 o .0))
 fresh-fits (suc i) o = rw (getD-replicate 32 i empty beyond (omega (arith, code-range (suc i) o .1))) refl
 

@@ -29,28 +29,28 @@ MayOpen none x = ⊥
 MayOpen (some s) x = firstOver (figuresOf s) x ≡ none
 
 -- what may stand in a place, by its state: nothing, with zeros; such a tariff as a draft; or one that may be open
-abbrev pub FitsAs : Option Sheet → State → Place → Type 0
-FitsAs s Empty p = p ≡ empty
-FitsAs s Draft p = Recorded (tariffIn p)
-FitsAs s Open p = Recorded (tariffIn p) × MayOpen s (tariffIn p)
+abbrev pub MayStandAs : Option Sheet → State → Place → Type 0
+MayStandAs s Empty p = p ≡ empty
+MayStandAs s Draft p = Recorded (tariffIn p)
+MayStandAs s Open p = Recorded (tariffIn p) × MayOpen s (tariffIn p)
 
-abbrev pub Fits : Option Sheet → Place → Type 0
-Fits s p = FitsAs s (p .state) p
+abbrev pub MayStand : Option Sheet → Place → Type 0
+MayStand s p = MayStandAs s (p .state) p
 
 -- 32 places, each with what may stand there; without a sheet, all beside the places is as in a fresh book; with one, the sheet
 -- passes SET's checks and has its figures beside it
 pub record Stands (b : Book) : Type 0 where
   pub size : length (b .places) ≡ 32
-  pub places : (k : ℕ) → inside k ≡ true → Fits (inForce b) (placeOf (b .places) k)
+  pub places : (k : ℕ) → inside k ≡ true → MayStand (inForce b) (placeOf (b .places) k)
   pub without-sheet : b .loaded ≡ false
       → (b .fields ≡ fresh .fields) × (b .period ≡ fresh .period) × (b .benchmarks ≡ fresh .benchmarks)
   pub with-sheet : b .loaded ≡ true → (setCheck (b .fields) (b .period) ≡ Pass) × (b .benchmarks ≡ figuresOf (sheetIn b))
 
 -- what a call that judges a place asks of it: where it holds a tariff, a valid one
-abbrev pub HoldsAs : State → Tariff → Type 0
-HoldsAs Empty x = Unit {0}
-HoldsAs Draft x = validTariff x ≡ true
-HoldsAs Open x = validTariff x ≡ true
+abbrev pub HoldsValidAs : State → Tariff → Type 0
+HoldsValidAs Empty x = Unit {0}
+HoldsValidAs Draft x = validTariff x ≡ true
+HoldsValidAs Open x = validTariff x ≡ true
 
-abbrev pub Holds : Place → Type 0
-Holds p = HoldsAs (p .state) (tariffIn p)
+abbrev pub HoldsValid : Place → Type 0
+HoldsValid p = HoldsValidAs (p .state) (tariffIn p)

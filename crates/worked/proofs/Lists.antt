@@ -26,7 +26,7 @@ use Rattle.queries.specs.Queries.{quotation, quoteOf, cellAllowed, monthsAllowe
 use Rattle.reference.specs.SheetS.{sheetS, times}
 use Rattle.reference.proofs.Table.{starred}
 use Rattle.worked.proofs.October.{october-accepted, october-low, october-close, close-record, high-record}
-use Rattle.worked.specs.Worked.{quarter, october, nothing, low, close, steep, bookOf, Worked}
+use Rattle.worked.specs.Worked.{quarter, october, noFields, low, close, steep, bookOf, Worked}
 
 -- the answers to a list, one after the other
 data Told : List Act → List Act → List Answer → Type 0 where
@@ -65,9 +65,9 @@ low-put = passed (starred .records .0)
 low-opens : verdictAnswer (verdict (figuresOf quarter) (tariffOf low)) ≡ opened 28
 low-opens = ap verdictAnswer (starred .within)
 
-nothing-set : setAnswer nothing ≡ refused 1
+no-fields-set : setAnswer noFields ≡ refused 1
 unfolding setCheck
-nothing-set = refl
+no-fields-set = refl
 
 -- CLOSE after October's sheet: the first tariff is a draft, and the second is still open
 closed-if : (x : Record) (v : Verdict) → verdict (figuresOf october) (tariffOf x) ≡ v
@@ -97,7 +97,7 @@ worked =
           (then low-opens
           (then (passed october-accepted) (then (closed-if close _ october-close) (then (closed-if low _ october-low) ended))))))));
       again = told (then quarter-set (then low-put (then low-opens (then refl (then low-opens ended)))));
-      refused-between = told (then quarter-set (then low-put (then low-opens (then nothing-set (then refl ended)))));
+      refused-between = told (then quarter-set (then low-put (then low-opens (then no-fields-set (then refl ended)))));
       codes = told (then refl (then refl (then refl (then refl ended))));
       twice = told (then quarter-set (then low-put (then low-opens (then refl (then refl (then refl ended))))));
       put-over =

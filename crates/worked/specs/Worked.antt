@@ -19,8 +19,8 @@ abbrev pub october : Sheet
 october = record { fields = sheetS; period = record { year = 2023; month = 10; months = 1 } }
 
 -- no sheet at all
-abbrev pub nothing : Sheet
-nothing = record { fields = []; period = periodS }
+abbrev pub noFields : Sheet
+noFields = record { fields = []; period = periodS }
 
 -- tariffs: well within the cap; within it for the quarter and above it for October, which has more days to the month; above it;
 -- above it in 100 kWh a month alone
@@ -50,7 +50,7 @@ pub record Worked : Type 0 where
   -- open, close, open
   pub again : answersTo (SET quarter ∷ PUT 1 low ∷ OPEN 1 ∷ CLOSE 1 ∷ OPEN 1 ∷ []) ≡ accepted ∷ accepted ∷ opened 28 ∷ accepted ∷ opened 28 ∷ []
   -- a refused SET in between changes nothing
-  pub refused-between : answersTo (SET quarter ∷ PUT 1 low ∷ OPEN 1 ∷ SET nothing ∷ CLOSE 1 ∷ [])
+  pub refused-between : answersTo (SET quarter ∷ PUT 1 low ∷ OPEN 1 ∷ SET noFields ∷ CLOSE 1 ∷ [])
       ≡ accepted ∷ accepted ∷ opened 28 ∷ refused 1 ∷ accepted ∷ []
   -- codes 0 and 33
   pub codes : answersTo (PUT 0 low ∷ OPEN 33 ∷ CLOSE 0 ∷ DROP 33 ∷ []) ≡ refused 6 ∷ refused 6 ∷ refused 6 ∷ refused 6 ∷ []

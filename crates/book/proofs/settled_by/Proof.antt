@@ -6,7 +6,7 @@ use Rattle.refusal.specs.declared.Check.{Check}
 use Rattle.book.specs.declared.Reply.{Reply}
 use Rattle.book.specs.declared.Place.{Place}
 use Rattle.book.specs.declared.Settled.{Settled}
-use Rattle.book.specs.Settling.{settledBy, placeBy}
+use Rattle.book.specs.Settling.{settledBy}
 use borrow.Author.Needs.{needs}
 use Rattle.book.proofs.settled_by.Statement.{statement}
 use Rattle.book.proofs.settled_by.Tie as tie

@@ -1,7 +1,7 @@
 -- `cap::worst_case` meets its contract: t of the worst month, and what both sides differ by.
 -- Assumes nothing.
 use native.Mathlib.Omega.{arith}
-use Rattle.cap.proofs.Comparing.{below, carried}
+use Rattle.cap.proofs.Comparing.{below, worst-carried}
 use borrow.Author.Needs.{needs}
 use Rattle.cap.proofs.worst_case.Statement.{statement}
 use Rattle.cap.proofs.worst_case.Tie as tie
@@ -28,7 +28,7 @@ returns : tie.Need-returns
 returns c =
     let w = c .before .before .before in
     let st = w .before .before in
-    carried (st .args .e) (st .args .x) (w .compared .result) (w .compared .ensures) (st .pre .2) _ (c .before .equal-months .ensures)
+    worst-carried (st .args .e) (st .args .x) (w .compared .result) (w .compared .ensures) (st .pre .2) _ (c .before .equal-months .ensures)
 
 pub worst-case-spec : {M : Type 1} → statement M
 worst-case-spec =

@@ -11,7 +11,7 @@ use Rattle.verdict.specs.Rulings.{verdictOf}
 use Rattle.book.specs.Checks.{verdictAnswer}
 use Rattle.book.specs.Book.{tariffIn}
 use Rattle.book.specs.Settling.{heldCheck}
-use Rattle.book.proofs.Steps.{noughts}
+use Rattle.laws.proofs.Lists.{noughts}
 use Rattle.codes.specs.declared.CodeAct.the-variants as act
 use Rattle.codes.specs.Codes.{restOn}
 use Rattle.codes.proofs.Answers.{refused-by, passed-by, open-passed}

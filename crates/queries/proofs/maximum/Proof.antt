@@ -13,7 +13,7 @@ use Rattle.cap.specs.Cap.{maximum}
 use Rattle.stands.proofs.InForce.{figures-are, figures-lawful}
 use Rattle.queries.specs.Queries.{Telling, maximumCharge, inRanges}
 use Rattle.verdict.specs.Cells.{cell, cellNumbers}
-use Rattle.queries.proofs.Ranges.{within, total-most}
+use Rattle.queries.proofs.Ranges.{within, total-in-range}
 use Rattle.queries.proofs.Answers.{hands-on, passed-on, maximum-answer}
 use borrow.Author.Needs.{needs}
 use Rattle.queries.proofs.maximum.Statement.{statement}
@@ -69,7 +69,7 @@ maximum-of-requires : tie.Need-maximum-of-requires
 maximum-of-requires c κs =
     let t = c .before .before .before in
     let a = t .before .before .before .before .before .args in
-    (c .before .numbers-in .ensures .1, rw (c .wide .ensures) (total-most (a .region) (a .arrangement) (a .method) (a .total) (passed t .0)))
+    (c .before .numbers-in .ensures .1, rw (c .wide .ensures) (total-in-range (a .region) (a .arrangement) (a .method) (a .total) (passed t .0)))
 
 mul-denominator : tie.Need-mul-denominator
 mul-denominator c = search needs

@@ -6,7 +6,7 @@ use native.Mathlib.Omega.{arith}
 use lib.ListN.{length, getD, length-set}
 use Rattle.laws.proofs.Filled.{filled-more, left-more}
 use Rattle.book.specs.Book.{beyond, under}
-use Rattle.stands.specs.Stands.{Holds}
+use Rattle.stands.specs.Stands.{HoldsValid}
 use Rattle.setting.proofs.Under.{judged-alike}
 use borrow.Author.Needs.{needs}
 use Rattle.setting.proofs.all_judged.Statement.{statement}
@@ -31,7 +31,7 @@ judged-requires : tie.Need-judged-requires Inv-loop μ-loop
 judged-requires c κs =
     let st = c .before .before .before in
     let lp = c .before .before .loop in
-    (st .pre .0, subst Holds (sym (lp .inv .3 (lp .i) (omega arith))) (st .pre .1 (lp .i) (omega arith)))
+    (st .pre .0, subst HoldsValid (sym (lp .inv .3 (lp .i) (omega arith))) (st .pre .1 (lp .i) (omega arith)))
 
 mul-next : tie.Need-mul-next Inv-loop μ-loop
 mul-next c = search needs

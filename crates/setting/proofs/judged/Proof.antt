@@ -7,7 +7,7 @@ use Rattle.book.specs.declared.State.{State}
 use Rattle.book.specs.Book.{tariffIn}
 use Rattle.tariff.specs.Tariff.{validTariff}
 use Rattle.verdict.specs.Cells.{firstOver}
-use Rattle.stands.specs.Stands.{HoldsAs}
+use Rattle.stands.specs.Stands.{HoldsValidAs}
 use Rattle.setting.proofs.Under.{empty-kept, draft-kept, open-judged, open-kept}
 use borrow.Author.Needs.{needs}
 use Rattle.setting.proofs.judged.Statement.{statement}
@@ -28,7 +28,7 @@ tariff-in-requires c κs = search needs
 first-over-requires : tie.Need-first-over-requires
 first-over-requires c κs =
     let st = c .before .before .before in
-    let valid = subst (λ (q : State). HoldsAs q (tariffIn (st .args .p))) (c .before .enum-told3 .given .1) (st .pre .1) in
+    let valid = subst (λ (q : State). HoldsValidAs q (tariffIn (st .args .p))) (c .before .enum-told3 .given .1) (st .pre .1) in
     (st .pre .0, ap validTariff (c .tariff-in .ensures) ∙ valid)
 
 enum-told-4 : tie.Need-enum-told-4

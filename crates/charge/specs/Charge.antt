@@ -20,7 +20,7 @@ ratesInUse x = take (x .n) (x .rates)
 abbrev pub tierSteps : Tariff → List ℕ
 tierSteps x = take (x .n - 1) (x .steps)
 
-abbrev pub shares : ℕ → Tariff → List ℕ
+abbrev pub shares : (peak : ℕ) → Tariff → List ℕ
 shares peak x = cond (eqb (x .kind) 2) (peak ∷ (wholeShare - peak) ∷ []) (take (x .n) (x .steps))
 
 -- "Kind 1 is held to arrangement 0, kinds 2 and 3 to arrangement 1 (28AD.3, 28AD.4)."
@@ -47,12 +47,12 @@ registers (r ∷ rs) (p ∷ ps) kwh = r * (p * kwh) + registers rs ps kwh
 
 -- A charge with shares in it is a fraction of a mill, so charges are kept times the whole of the shares.
 -- a month's charge for its kWh, so scaled
-unfoldable pub monthCharge : ℕ → Tariff → ℕ → ℕ
+unfoldable pub monthCharge : (peak : ℕ) → Tariff → (kwh : ℕ) → ℕ
 monthCharge peak x kwh =
     cond (eqb (x .kind) 1) (wholeShare * tierCharge 0 (ratesInUse x) (tierSteps x) kwh) (weighted (ratesInUse x) (shares peak x) * kwh)
 
 -- "The charge is standing × days plus the months' tier charges, or plus total × the percentage-weighted rate", so scaled
-unfoldable pub charge : ℕ → ℕ → ℕ → Tariff → List ℕ → ℕ
+unfoldable pub charge : (standing days peak : ℕ) → Tariff → List ℕ → ℕ
 charge standing days peak x months =
     wholeShare * (standing * days)
     + cond (eqb (x .kind) 1)

@@ -41,7 +41,7 @@ abbrev pub peakShare : ℕ
 peakShare = 58
 
 -- the numbers of a cell in an arrangement, with the figures of a sheet, for a standing charge
-unfoldable pub cellNumbers : Benchmarks → ℕ → ℕ → Cell → CellNumbers
+unfoldable pub cellNumbers : Benchmarks → (arrangement standing : ℕ) → Cell → CellNumbers
 cellNumbers b arrangement standing c =
     record {
       lower = getD (b .charges) (figureIndex (c .region) arrangement (c .method) 0) 0;

@@ -7,7 +7,7 @@ use Prim.Native.Nat.{ℕ}
 use lib.Dec.{eqb}
 use lib.IntN.{natAbs}
 use Rattle.book.specs.Calls.{Answer, accepted, opened, refused, over, refusalNumber}
-use Rattle.queries.specs.Queries.{Telling, benchmarkCharge, maximumCharge, quotation}
+use Rattle.queries.specs.Queries.{Telling, benchmarkCharge, maximumCharge, quotation, falling}
 use Rattle.queries.specs.Queries as telling
 use Rattle.request.specs.declared.Arity.{Arity}
 use Rattle.request.specs.declared.Arity.the-variants.{Exactly, AtLeast}
@@ -41,12 +41,14 @@ carried (over c months excess) = c .region ∷ c .method ∷ natAbs excess ∷ m
 abbrev pub answerText : Answer → List ℕ
 answerText a = okOrRefused (refusalNumber a) (carried a)
 
--- benchmark: ok VALUE | refused N; maximum: ok NUMBER DENOMINATOR | refused N; quote: ok CHARGE MAXIMUM | refused N
+-- benchmark: ok VALUE | refused N; maximum: ok NUMBER DENOMINATOR | refused N; quote: ok CHARGE MAXIMUM | refused N;
+-- trial: ok SET | refused N
 abbrev pub toldText : Telling → List ℕ
 toldText (telling.refused n) = okOrRefused (some n) []
 toldText (benchmarkCharge mills) = okOrRefused none (mills ∷ [])
 toldText (maximumCharge f) = okOrRefused none (f .number ∷ f .denominator ∷ [])
 toldText (quotation q) = okOrRefused none (q .charge ∷ q .maximum ∷ [])
+toldText (falling codes) = okOrRefused none (codes ∷ [])
 
 -- error line L: WHAT
 abbrev pub errorStart : ℕ → List ℕ

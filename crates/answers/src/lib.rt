@@ -158,7 +158,7 @@ pub fn put_reply(out: &mut [u8], at: usize, reply: Reply, months: [u32; 12]) -> 
     }
 }
 
-// The answer of BENCHMARK, MAXIMUM or QUOTE.
+// The answer of BENCHMARK, MAXIMUM, QUOTE or TRIAL.
 pub fn put_told(out: &mut [u8], at: usize, told: Told) -> usize
     requires { ⌜ at + shortRoom ≤ length (now out) ⌝ }
     ensures { λ r. ⌜ Puts (now (out .entry)) at (toldText (tellingOf told)) r (now (out .exit)) ⌝ }
@@ -171,6 +171,7 @@ pub fn put_told(out: &mut [u8], at: usize, told: Told) -> usize
             denominator,
         } => put_two(out, at, number, denominator),
         Told::Quote { charge, maximum } => put_two(out, at, charge, maximum),
+        Told::Falling(codes) => put_ok(out, at, codes as u64),
     }
 }
 

@@ -19,7 +19,7 @@ use Rattle.book.specs.declared.State.{State}
 use Rattle.book.specs.declared.State.the-variants.{Empty, Draft, Open}
 use Rattle.book.specs.declared.Place.{Place}
 use Rattle.book.specs.declared.Book.{Book}
-use Rattle.book.specs.Calls.{Sheet, Act, SET, PUT, OPEN, CLOSE, DROP, Call, isAccepted}
+use Rattle.book.specs.Calls.{Sheet, Act, SET, PUT, OPEN, CLOSE, DROP, Call, call, isAccepted}
 use Rattle.book.specs.Checks.{Holding, Readings, figuresOf, complies, inside, answer}
 use Rattle.book.specs.Book.{empty, placeWith, tariffIn, withState, fresh, placeOf, holding, heldIn, held, inForce, bookReadings, withPlace, openIf, stateUnder, changed, after, step, bookAfter, answersOf, Reachable}
 use Rattle.book.proofs.Places.{code-range, at-set, at-map, fresh-place, held-inside}
@@ -31,6 +31,7 @@ use Rattle.stands.proofs.InForce.{recorded-valid}
 use Rattle.history.specs.History.{sheetOf, tariffAt, openOf, staysOpen, heldAs, readings, noted, logAfter, acceptedOf, answersAfter}
 use Rattle.history.specs.Claim.{MonthsOf, excessIn, OpenAnswer, Demand3}
 use Rattle.history.proofs.OpenAnswers.{nowhere-above, open-answer}
+use Rattle.history.proofs.TrialAnswers.{tariffed, trial-answer}
 
 same-readings : (r q : Readings) → r .sheet ≡ q .sheet → ((k : ℕ) → r .held k ≡ q .held k) → r ≡ q
 same-readings r q s h = λ i. record { sheet = s i; held = λ k. h k i }
@@ -215,4 +216,7 @@ demand3 calls =
         read-open before c k a,
       );
       next-open = λ c k a. subst (OpenAnswer (log calls) k) (ap (λ r. answer r (c .act)) (sym (same calls))) (read-open calls c k a);
+      next-trial = λ s.
+          trial-answer (log calls) (b calls) s (same calls) (step-reads (log calls) (b calls) (reached calls) (same calls) (call (SET s)))
+          (tariffed calls [] (λ k e. never (cc))) (λ k x e. known calls k x e .0);
     }

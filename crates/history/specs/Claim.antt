@@ -5,11 +5,11 @@ use mathlib.Core.Logic.{_↔_}
 use mathlib.Core.Bool.{true, false}
 use mathlib.Core.List.{List, [], _∷_, _++_}
 use mathlib.Core.Option.{some}
-use Prim.Native.Nat.{ℕ, _<_}
+use Prim.Native.Nat.{ℕ, suc, _<_}
 use lib.IntN.{ℤ, pos}
 use lib.ListN.{length, getD, getElem?}
 use lib.Signed.{_<ℤ_, _≤ℤ_}
-use Rattle.laws.specs.Notions.{count}
+use Rattle.laws.specs.Notions.{count, bit}
 use Rattle.laws.specs.Greatest.{Greatest}
 use Rattle.tariff.specs.declared.Tariff.{Tariff}
 use Rattle.charge.specs.Charge.{monthMost}
@@ -18,11 +18,13 @@ use Rattle.cap.specs.Cap.{excess, Months, share}
 use Rattle.verdict.specs.Cells.{Cell, offered, Offered, tariffNumbers, ExceedsIn, Before, cellAt}
 use Rattle.book.specs.declared.Book.{Book}
 use Rattle.book.specs.declared.Done.{Done}
-use Rattle.book.specs.Calls.{Sheet, Act, OPEN, Call, Answer, opened, over, refusalNumber}
-use Rattle.book.specs.Checks.{figuresOf}
+use Rattle.book.specs.Calls.{Sheet, Act, SET, OPEN, Call, call, Answer, opened, over, refusalNumber, isAccepted}
+use Rattle.book.specs.Checks.{figuresOf, answer}
 use Rattle.book.specs.Book.{holding, held, placeOf, fresh, step}
 use Rattle.book.specs.Promises.{answerOf, Does}
-use Rattle.history.specs.History.{sheetOf, tariffAt, openOf, acceptedOf, answersAfter}
+use Rattle.queries.specs.Queries.{Telling, refused, falling}
+use Rattle.trial.specs.Trial.{trialOf}
+use Rattle.history.specs.History.{sheetOf, tariffAt, openOf, readings, noted, acceptedOf, answersAfter}
 
 -- the place of code k holds tariff x, open
 abbrev pub OpenIn : Book → ℕ → Tariff → Type 0
@@ -75,6 +77,18 @@ pub record OpenAnswer (log : List Act) (k : ℕ) (a : Answer) : Type 0 where
   -- it opens exactly when the code is a draft and its tariff exceeds in no offered cell, and says how many they are
   pub opened-exactly : (n : ℕ) → (a ≡ opened n) ↔ DraftWhere log k (λ s x. (ExceedsSomewhere s x → ⊥) × (n ≡ cellsOffered x))
 
+-- code i + 1 is open, and would not be after a SET of the sheet made next
+abbrev pub WouldFall : List Act → Sheet → ℕ → Type 0
+WouldFall log s i = (openOf log (suc i) ≡ true) × (openOf (noted log (call (SET s))) (suc i) ≡ false)
+
+-- what holds of a TRIAL of a sheet, told t, where log has the calls that were accepted before it
+pub record TrialAnswer (log : List Act) (s : Sheet) (t : Telling) : Type 0 where
+  -- it is refused exactly when a SET of the sheet made next would be, by that number
+  pub refused-exactly : (n : ℕ) → (t ≡ refused n) ↔ (refusalNumber (answer (readings log) (SET s)) ≡ some n)
+  -- where that SET would be accepted, it tells a set, and the set has exactly the codes that would fall, bit code - 1 of each
+  pub falling-exactly : isAccepted (answer (readings log) (SET s)) ≡ true
+      → (codes : ℕ) × (t ≡ falling codes) × ((i : ℕ) → (bit codes i ≡ true) ↔ WouldFall log s i)
+
 -- Demand 3, of a list of calls, the answers that they had and the book that they left
 pub record Demand3 (calls : List Call) (answers : List Answer) (b : Book) : Type 0 where
   -- each call has had the answer that its checks give for what is read from the calls before it
@@ -91,6 +105,8 @@ pub record Demand3 (calls : List Call) (answers : List Answer) (b : Book) : Type
       → (a : Answer) × (getElem? answers (length before) ≡ some a) × OpenAnswer (acceptedOf before) k a
   -- and so would an OPEN made next
   pub next-open : (c : Call) (k : ℕ) → c .act ≡ OPEN k → OpenAnswer (acceptedOf calls) k (step b c .answer)
+  -- a TRIAL made next tells what a SET made in its place would do
+  pub next-trial : (s : Sheet) → TrialAnswer (acceptedOf calls) s (trialOf b s)
 
 -- A list of calls made by the code: each on the book that the one before it returned, with any answers and books that the calls'
 -- own promises allow. `Does` is what SET, PUT, OPEN, CLOSE and DROP each ensure.

@@ -9,3 +9,4 @@ pub mod Differences
 pub mod Greatest
 pub mod Never
 pub mod Pieces
+pub mod Sets

@@ -7,14 +7,15 @@ use lib.Dec.{ltb}
 use lib.ListN.{length, getD, take, drop}
 use Rattle.calendar.specs.declared.Period.{Period}
 use Rattle.book.specs.declared.Book.{Book}
-use Rattle.book.specs.Calls.{sheetAt, Act, SET, PUT, OPEN, CLOSE, DROP, Call, call}
+use Rattle.book.specs.Calls.{Sheet, sheetAt, Act, SET, PUT, OPEN, CLOSE, DROP, Call, call}
 use Rattle.book.specs.Book.{step}
 use Rattle.queries.specs.Queries.{Telling, benchmarkOf, maximumOf, quoteOf}
+use Rattle.trial.specs.Trial.{trialOf}
 use Rattle.lines.specs.Words.{withoutReturn}
 use Rattle.request.specs.declared.Step.{Step}
 use Rattle.request.specs.declared.Step.the-variants.{Set, Put, Open, Close, Drop}
 use Rattle.request.specs.declared.Query.{Query}
-use Rattle.request.specs.declared.Query.the-variants.{Benchmark, Maximum, Quote}
+use Rattle.request.specs.declared.Query.the-variants.{Benchmark, Maximum, Quote, Trial}
 use Rattle.request.specs.declared.Word.{Word}
 use Rattle.request.specs.declared.Word.the-variants.{Steps, Tells}
 use Rattle.request.specs.declared.Request.{Request}
@@ -22,13 +23,16 @@ use Rattle.request.specs.declared.Request.the-variants.{Nothing, Asks, Unknown,
 use Rattle.request.specs.Requests.{requestOf, numbersOf}
 use Rattle.answers.specs.Answers.{answerText, toldText, tooLong, problemText}
 
--- set YEAR MONTH T F0 F1 ..
+-- set and trial YEAR MONTH T F0 F1 ..
 abbrev pub periodOf : List ℕ → Period
 periodOf ns = record { year = getD ns 0 0; month = getD ns 1 0; months = getD ns 2 0 }
 
+abbrev pub givenSheet : List ℕ → Sheet
+givenSheet ns = sheetAt (drop 3 ns) (periodOf ns)
+
 -- the step that is asked for with these numbers
 abbrev pub stepOf : Step → List ℕ → Act
-stepOf Set ns = SET (sheetAt (drop 3 ns) (periodOf ns))
+stepOf Set ns = SET (givenSheet ns)
 stepOf Put ns = PUT (getD ns 0 0) (drop 1 ns)
 stepOf Open ns = OPEN (getD ns 0 0)
 stepOf Close ns = CLOSE (getD ns 0 0)
@@ -39,6 +43,7 @@ abbrev pub toldOf : Book → Query → List ℕ → Telling
 toldOf b Benchmark ns = benchmarkOf b (getD ns 0 0) (getD ns 1 0) (getD ns 2 0) (getD ns 3 0)
 toldOf b Maximum ns = maximumOf b (getD ns 0 0) (getD ns 1 0) (getD ns 2 0) (getD ns 3 0)
 toldOf b Quote ns = quoteOf b (getD ns 0 0) (getD ns 1 0) (getD ns 2 0) (drop 3 ns)
+toldOf b Trial ns = trialOf b (givenSheet ns)
 
 -- what a line leads to: the book after it, and the text of its answer
 pub record Response : Type 0 where

@@ -54,6 +54,14 @@ fn told(b: Book, query: Query, numbers: &[u32]) -> Told
         Query::Benchmark => queries::benchmark(b, numbers[0], numbers[1], numbers[2], numbers[3]),
         Query::Maximum => queries::maximum(b, numbers[0], numbers[1], numbers[2], numbers[3]),
         Query::Quote => queries::quote(b, numbers[0], numbers[1], numbers[2], &numbers[3..]),
+        Query::Trial => {
+            let period = Period {
+                year: numbers[0],
+                month: numbers[1],
+                months: numbers[2],
+            };
+            trial::trial(b, &numbers[3..], period)
+        }
     }
 }
 

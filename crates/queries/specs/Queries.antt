@@ -30,12 +30,13 @@ pub record Quotation : Type 0 where
   pub maximum : ℕ
 
 -- "A refusal returns its number"; else BENCHMARK gives the Benchmark Maximum Charge in mills, MAXIMUM the Relevant Maximum Charge as
--- a fraction, and QUOTE a quotation
+-- a fraction, QUOTE a quotation, and TRIAL "a set of codes, bit code - 1" (trial/specs/Trial.antt)
 pub data Telling : Type 0 where
   refused : (number : ℕ) → Telling
   benchmarkCharge : (mills : ℕ) → Telling
   maximumCharge : Fraction → Telling
   quotation : Quotation → Telling
+  falling : (codes : ℕ) → Telling
 
 -- the code's answer in these words: "this paper's number and values for each of the enum's cases"
 abbrev pub tellingOf : Told → Telling
@@ -43,6 +44,7 @@ tellingOf (told.Refused n) = refused n
 tellingOf (told.Benchmark mills) = benchmarkCharge mills
 tellingOf (told.Maximum n d) = maximumCharge (record { number = n; denominator = d })
 tellingOf (told.Quote c m) = quotation (record { charge = c; maximum = m })
+tellingOf (told.Falling codes) = falling codes
 
 -- "13: an argument outside its range": region 0 to 13; arrangement, method and level 0 or 1
 abbrev pub inRanges : ℕ → ℕ → ℕ → Bool

@@ -1,6 +1,7 @@
 // BENCHMARK, MAXIMUM and QUOTE: what the book tells and leaves as it is.
 // Promise: each answers what specs/Queries.antt says, on refused input too; `tellingOf` reads the answer in the paper's words. They
 // require document 01's own sentence on the book, `Reachable`, since the figures are read from the book and are those of its sheet.
+// What the layer above may use: the answers, which are TRIAL's too, and `refused`.
 ghost use mathlib.Core.Path.{_≡_};
 ghost use mathlib.Core.Bool.{_&&_};
 ghost use Rattle.refusal.specs.Checks.{unless};
@@ -13,13 +14,14 @@ use charge::Kwh;
 use refusal::Check;
 use tariff::Tariff;
 
-// A refusal, with its number; or what each of the three calls gives. `Maximum` is its number over its denominator, 12 × m; both figures
-// of `Quote` are scaled by 1,200 × m.
+// A refusal, with its number; or what each of the calls that tell gives. `Maximum` is its number over its denominator, 12 × m; both figures
+// of `Quote` are scaled by 1,200 × m; `Falling` is TRIAL's set of codes, bit code - 1.
 pub enum Told {
     Refused(u32),
     Benchmark(u64),
     Maximum { number: u64, denominator: u64 },
     Quote { charge: u64, maximum: u64 },
+    Falling(u32),
 }
 
 fn wide(x: u32) -> u64
@@ -29,7 +31,7 @@ fn wide(x: u32) -> u64
 }
 
 // The answer of a check that refuses.
-fn refused(check: Check) -> Told
+pub fn refused(check: Check) -> Told
     ensures { λ r. ⌜ r ≡ refusalTold check ⌝ }
 {
     match check {

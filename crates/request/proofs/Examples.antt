@@ -5,7 +5,7 @@ use mathlib.Core.List.{[], _∷_}
 use Rattle.lines.specs.Words.{parts, notEmpty, words}
 use Rattle.lines.specs.Numerals.{digits, valueAfter, value, numbersIn}
 use Rattle.request.specs.declared.Step.the-variants.{Set, Put, Open, Close, Drop}
-use Rattle.request.specs.declared.Query.the-variants.{Benchmark, Maximum, Quote}
+use Rattle.request.specs.declared.Query.the-variants.{Benchmark, Maximum, Quote, Trial}
 use Rattle.request.specs.declared.Word.the-variants.{Steps, Tells}
 use Rattle.request.specs.declared.Request.the-variants.{Nothing, Asks, Unknown, NotANumber, WrongCount}
 use Rattle.request.specs.Requests.{bytesOf, same, named, requestOf, numbersOf}
@@ -67,3 +67,11 @@ short = refl
 quoted : requestOf (bytesOf "quote 7 0 1") ≡ Asks (Tells Quote) 3
 unfolding requestOf words parts notEmpty same named numbersIn digits valueAfter value
 quoted = refl
+
+tried : requestOf (bytesOf "trial 2024 4 3") ≡ Asks (Tells Trial) 3
+unfolding requestOf words parts notEmpty same named numbersIn digits valueAfter value
+tried = refl
+
+tried-short : requestOf (bytesOf "trial 2024 4") ≡ WrongCount (Tells Trial)
+unfolding requestOf words parts notEmpty same named numbersIn digits valueAfter value
+tried-short = refl

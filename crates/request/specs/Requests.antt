@@ -13,7 +13,7 @@ use Rattle.lines.specs.declared.Numbers.the-variants.{All, Bad}
 use Rattle.lines.specs.Words.{words}
 use Rattle.lines.specs.Numerals.{value, numbersIn}
 use Rattle.request.specs.declared.Step.the-variants.{Set, Put, Open, Close, Drop}
-use Rattle.request.specs.declared.Query.the-variants.{Benchmark, Maximum, Quote}
+use Rattle.request.specs.declared.Query.the-variants.{Benchmark, Maximum, Quote, Trial}
 use Rattle.request.specs.declared.Word.{Word}
 use Rattle.request.specs.declared.Word.the-variants.{Steps, Tells}
 use Rattle.request.specs.declared.Arity.{Arity}
@@ -29,9 +29,9 @@ abbrev pub bytesOf : String → List ℕ
 bytesOf []ᵗ = []
 bytesOf (c ∷ᵗ s) = code c ∷ bytesOf s
 
--- the eight calls: five steps of the book, and three that it tells of
+-- the nine calls: five steps of the book, and four that it tells of
 abbrev pub calls : List Word
-calls = Steps Set ∷ Steps Put ∷ Steps Open ∷ Steps Close ∷ Steps Drop ∷ Tells Benchmark ∷ Tells Maximum ∷ Tells Quote ∷ []
+calls = Steps Set ∷ Steps Put ∷ Steps Open ∷ Steps Close ∷ Steps Drop ∷ Tells Benchmark ∷ Tells Maximum ∷ Tells Quote ∷ Tells Trial ∷ []
 
 abbrev pub nameOf : Word → List ℕ
 nameOf (Steps Set) = bytesOf "set"
@@ -42,6 +42,7 @@ nameOf (Steps Drop) = bytesOf "drop"
 nameOf (Tells Benchmark) = bytesOf "benchmark"
 nameOf (Tells Maximum) = bytesOf "maximum"
 nameOf (Tells Quote) = bytesOf "quote"
+nameOf (Tells Trial) = bytesOf "trial"
 
 -- how many numbers a call takes
 abbrev pub arity : Word → Arity
@@ -53,6 +54,7 @@ arity (Steps Drop) = Exactly 1
 arity (Tells Benchmark) = Exactly 4
 arity (Tells Maximum) = Exactly 4
 arity (Tells Quote) = AtLeast 3
+arity (Tells Trial) = AtLeast 3
 
 -- whether n numbers are as many
 abbrev pub rightCount : Arity → ℕ → Bool

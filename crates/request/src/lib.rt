@@ -1,4 +1,4 @@
-// Which call a line asks for: one of the eight with its numbers, or why the line is no call.
+// Which call a line asks for: one of the nine with its numbers, or why the line is no call.
 // Promise: `request_of` answers what specs/Requests.antt, the desk's protocol, says of every line of bytes, and leaves a call's numbers in
 // order. `Standing` is what the layer above may use of a call: the count is right for it, and its numbers stand there. A call is its
 // case here, its name and arity in `form_of`, and its place in `all_calls`; all that reads or writes it goes by these.
@@ -22,6 +22,7 @@ pub enum Query {
     Benchmark,
     Maximum,
     Quote,
+    Trial,
 }
 
 // A call's own word.
@@ -29,6 +30,9 @@ pub enum Word {
     Steps(Step),
     Tells(Query),
 }
+
+// How many calls there are.
+const CALLS: usize = 9;
 
 // How many numbers a call takes.
 pub enum Arity {
@@ -84,11 +88,12 @@ pub fn form_of(word: Word) -> Form
             Query::Benchmark => formed(*b"benchmark", 9, Arity::Exactly(4)),
             Query::Maximum => formed(*b"maximum  ", 7, Arity::Exactly(4)),
             Query::Quote => formed(*b"quote    ", 5, Arity::AtLeast(3)),
+            Query::Trial => formed(*b"trial    ", 5, Arity::AtLeast(3)),
         },
     }
 }
 
-fn all_calls() -> [Word; 8]
+fn all_calls() -> [Word; CALLS]
     ensures { λ r. ⌜ r ≡ calls ⌝ }
 {
     [
@@ -100,6 +105,7 @@ fn all_calls() -> [Word; 8]
         Word::Tells(Query::Benchmark),
         Word::Tells(Query::Maximum),
         Word::Tells(Query::Quote),
+        Word::Tells(Query::Trial),
     ]
 }
 
@@ -108,7 +114,7 @@ fn call_named(word: &[u8]) -> Named
 {
     let all = all_calls();
     let mut i: usize = 0;
-    while i < 8 {
+    while i < CALLS {
         let call = all[i];
         let form = form_of(call);
         let name = form.name;

@@ -1,6 +1,7 @@
 // SET: the checks of a sheet and its period, and every open tariff judged by it.
 // Promise: `set` answers and leaves what `step` says of SET, on refused input too: the sheet is replaced, and each open tariff that
-// exceeds somewhere becomes a draft. It requires document 01's own sentence on the book, `Reachable`.
+// exceeds somewhere becomes a draft. `judge` does all of that but storing it, for TRIAL too. Both require document 01's own sentence on
+// the book, `Reachable`.
 ghost use mathlib.Core.Path.{_≡_};
 ghost use mathlib.Core.List.{map};
 ghost use Prim.Native.Nat.{ℕ, _<_};
@@ -10,6 +11,7 @@ ghost use Rattle.book.specs.Calls.{SET, sheetAt, call};
 ghost use Rattle.book.specs.Book.{beyond, under, Reachable};
 ghost use Rattle.book.specs.Promises.{Does};
 ghost use Rattle.stands.specs.Stands.{HoldsValid};
+ghost use Rattle.setting.specs.Judging.{Judges};
 use benchmark::Benchmarks;
 use book::Book;
 use book::Done;
@@ -67,20 +69,50 @@ fn fields_of(fields: &[u32]) -> [u32; 95]
     copy
 }
 
+// The answer of SET's checks and, where they pass, the figures of the sheet and the places judged by them.
+pub struct Judgement {
+    pub check: Check,
+    pub figures: Benchmarks,
+    pub places: [Place; 32],
+}
+
+// What a sheet would do to a book.
+pub fn judge(b: Book, fields: &[u32], period: Period) -> Judgement
+    requires { ⌜ Reachable b ⌝ }
+    ensures { λ r. ⌜ Judges b (sheetAt (now (fields .entry)) period) r ⌝ }
+{
+    let worked = benchmark::work_out(fields, period);
+    let check = worked.check;
+    let figures = worked.benchmarks;
+    let before = b.places;
+    let Check::Pass = check else {
+        return Judgement {
+            check,
+            figures,
+            places: before,
+        };
+    };
+    let places = all_judged(before, figures);
+    Judgement {
+        check,
+        figures,
+        places,
+    }
+}
+
 // SET (sheet, period). 1 to 5. Else the sheet is replaced and each open tariff that exceeds somewhere becomes a draft.
 pub fn set(b: Book, fields: &[u32], period: Period) -> Done
     requires { ⌜ Reachable b ⌝ }
     ensures { λ r. ⌜ Does b (call (SET (sheetAt (now (fields .entry)) period))) r ⌝ }
 {
-    let worked = benchmark::work_out(fields, period);
-    let checked = worked.check;
-    let Check::Pass = checked else {
-        return book::answered(checked, b);
+    let judged = judge(b, fields, period);
+    let check = judged.check;
+    let Check::Pass = check else {
+        return book::answered(check, b);
     };
-    let figures = worked.benchmarks;
+    let figures = judged.figures;
+    let places = judged.places;
     let copy = fields_of(fields);
-    let before = b.places;
-    let places = all_judged(before, figures);
     let next = Book {
         loaded: true,
         fields: copy,
@@ -88,5 +120,5 @@ pub fn set(b: Book, fields: &[u32], period: Period) -> Done
         benchmarks: figures,
         places,
     };
-    book::answered(checked, next)
+    book::answered(check, next)
 }

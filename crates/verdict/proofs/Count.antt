@@ -8,9 +8,9 @@ use native.Mathlib.Omega.{arith}
 use lib.Count.{ones, onesIn, ones-step}
 use lib.Dec.{eqb, lit<}
 use borrow.Author.Tests.{eqb-true, eqb-false}
-use Rattle.laws.specs.Notions.{sum, tabulate, tabulateFrom, count}
+use Rattle.laws.specs.Notions.{sum, tabulate, tabulateFrom, count, bit}
 use Rattle.tariff.specs.declared.Tariff.{Tariff}
-use Rattle.verdict.specs.Cells.{cell, bit, offered, cellAt, cellCount}
+use Rattle.verdict.specs.Cells.{cell, offered, cellAt, cellCount}
 use Rattle.verdict.proofs.Meaning.{cell-at-rank}
 
 abbrev one : Bool → ℕ

@@ -9,6 +9,7 @@ use native.Mathlib.Omega.{arith}
 use lib.Dec.{eqb}
 use lib.IntN.{pos}
 use lib.ListN.{getD, take}
+use Rattle.laws.specs.Notions.{bit}
 use Rattle.benchmark.specs.declared.Benchmarks.{Benchmarks}
 use Rattle.benchmark.specs.Benchmark.{figureIndex}
 use Rattle.benchmark.specs.Lawful.{Lawful}
@@ -22,7 +23,7 @@ use Rattle.cap.specs.declared.WorstCase.{WorstCase}
 use Rattle.cap.specs.Decided.{exceeds?, decided}
 use Rattle.cap.specs.Corners.{Fits, Cornered, Carries}
 use Rattle.verdict.specs.declared.Found.the-variants as found
-use Rattle.verdict.specs.Cells.{Cell, bit, offered, peakShare, cellNumbers, tariffNumbers, exceedsAt, firstBelow, firstOver, cellCount, opens, over, verdictAt, verdict, cell}
+use Rattle.verdict.specs.Cells.{Cell, offered, peakShare, cellNumbers, tariffNumbers, exceedsAt, firstBelow, firstOver, cellCount, opens, over, verdictAt, verdict, cell}
 use Rattle.verdict.specs.Rulings.{Finds}
 use Rattle.verdict.proofs.Meaning.{cell-at-rank, below-none, below-here, below-later}
 

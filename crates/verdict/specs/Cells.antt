@@ -5,11 +5,11 @@ use mathlib.Core.Bool.{Bool, true, false, _&&_}
 use mathlib.Core.List.{List}
 use mathlib.Core.Logic.{_⊎_}
 use mathlib.Core.Option.{Option, none, some}
-use Prim.Native.Nat.{ℕ, zero, suc, _*_, _/_, _%_, _^_, _<_}
+use Prim.Native.Nat.{ℕ, zero, suc, _*_, _/_, _%_, _<_}
 use lib.Count.{ones}
-use lib.Dec.{eqb}
 use lib.IntN.{ℤ}
 use lib.ListN.{getD}
+use Rattle.laws.specs.Notions.{bit}
 use Rattle.benchmark.specs.declared.Benchmarks.{Benchmarks}
 use Rattle.benchmark.specs.Benchmark.{figureIndex}
 use Rattle.tariff.specs.declared.Tariff.{Tariff}
@@ -25,10 +25,6 @@ pub record Cell : Type 0 where
 
 abbrev pub cell : ℕ → ℕ → Cell
 cell region method = record { region = region; method = method }
-
--- bit i of a set
-unfoldable pub bit : ℕ → ℕ → Bool
-bit set i = eqb (set / 2 ^ i % 2) 1
 
 unfoldable pub offered : Tariff → Cell → Bool
 offered x c = bit (x .regions) (c .region) && bit (x .methods) (c .method)

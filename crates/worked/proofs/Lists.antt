@@ -11,12 +11,12 @@ use Rattle.benchmark.specs.declared.Benchmarks.{Benchmarks}
 use Rattle.benchmark.specs.Benchmark.{setCheck, benchmark, wc, pc, oc, nc, paenc, headroom, panc, figure, figures, benchmarksOf}
 use Rattle.tariff.specs.declared.Tariff.{Tariff}
 use Rattle.tariff.specs.Tariff.{tariffOf, recordCheck}
-use Rattle.verdict.specs.Cells.{Cell, bit, offered, cellNumbers, Verdict, opens, verdict, verdictAt, firstOver}
+use Rattle.verdict.specs.Cells.{Cell, offered, cellNumbers, Verdict, opens, verdict, verdictAt, firstOver}
 use Rattle.verdict.specs.Cells as cells
 use Rattle.book.specs.Calls.{Record, Act, SET, PUT, call, Answer, accepted, opened, refused, isAccepted, isNone}
 use Rattle.book.specs.Checks.{figuresOf, complies, verdictAnswer, setAnswer, answer}
 use Rattle.history.specs.History.{readings, answersAfter}
-use Rattle.laws.specs.Notions.{every, sum, total, tabulate, tabulateFrom}
+use Rattle.laws.specs.Notions.{every, sum, total, tabulate, tabulateFrom, bit}
 use Rattle.calendar.specs.Calendar.{periodDays, monthBegins, lengthAt, monthLength, leapYear}
 use Rattle.sheet.specs.Sheet.{round, indexed}
 use Rattle.charge.specs.Charge.{arrangement, tierCharge, charge}

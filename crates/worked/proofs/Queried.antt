@@ -1,13 +1,13 @@
 -- What the queries give holds: the calls before them are accepted, and the rest is computed.
 -- Assumes nothing.
 use mathlib.Core.Path.{_≡_, refl, sym, subst₂}
-use Rattle.laws.specs.Notions.{every, sum, total, tabulate, tabulateFrom}
+use Rattle.laws.specs.Notions.{every, sum, total, tabulate, tabulateFrom, bit}
 use Rattle.calendar.specs.Calendar.{periodDays, monthBegins, lengthAt, monthLength, leapYear}
 use Rattle.sheet.specs.Sheet.{round, indexed}
 use Rattle.benchmark.specs.Benchmark.{benchmark, wc, pc, oc, nc, paenc, headroom, panc, figure, figures, benchmarksOf}
 use Rattle.charge.specs.Charge.{arrangement, tierCharge, weighted, charge}
 use Rattle.cap.specs.Cap.{maximum, charged, capped}
-use Rattle.verdict.specs.Cells.{bit, offered, cellNumbers}
+use Rattle.verdict.specs.Cells.{offered, cellNumbers}
 use Rattle.book.specs.declared.Book.{Book}
 use Rattle.book.specs.Calls.{sheetAt, SET, PUT}
 use Rattle.book.specs.Book.{fresh, bookAfter, step, changed}

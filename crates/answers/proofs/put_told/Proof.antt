@@ -1,6 +1,7 @@
 -- `answers::put_told` meets its contract, answer by answer.
 -- Assumes nothing.
 use native.Mathlib.Omega.{arith}
+use borrow.Author.Needs.{needs}
 use Rattle.answers.proofs.put_told.Statement.{statement}
 use Rattle.answers.proofs.put_told.Tie as tie
 
@@ -28,6 +29,15 @@ enum-known-told-4 c = c .match .keys4
 put-two-requires-2 : tie.Need-put-two-requires-2
 put-two-requires-2 c κs = omega arith
 
+enum-known-told-5 : tie.Need-enum-known-told-5
+enum-known-told-5 c = c .match .keys5
+
+cast-put-ok : tie.Need-cast-put-ok
+cast-put-ok c = search needs
+
+put-ok-requires-2 : tie.Need-put-ok-requires-2
+put-ok-requires-2 c κs = omega arith
+
 same-length : tie.Need-same-length
 same-length c = c .before .before .put-refused .kept .0
 
@@ -52,6 +62,12 @@ same-length-4 c = c .before .before .put-two2 .kept .0
 returns-4 : tie.Need-returns-4
 returns-4 c = rw (c .before .before .before .before .before .told4 .given .1) (c .before .before .put-two2 .ensures)
 
+same-length-5 : tie.Need-same-length-5
+same-length-5 c = c .before .before .put-ok2 .kept .0
+
+returns-5 : tie.Need-returns-5
+returns-5 c = rw (c .before .before .before .before .before .told5 .given .1) (c .before .before .put-ok2 .ensures)
+
 pub put-told-spec : {M : Type 1} → statement M
 put-told-spec =
     tie.close
@@ -64,6 +80,9 @@ put-told-spec =
     put-two-requires
     enum-known-told-4
     put-two-requires-2
+    enum-known-told-5
+    cast-put-ok
+    put-ok-requires-2
     same-length
     returns
     same-length-2
@@ -71,4 +90,6 @@ put-told-spec =
     same-length-3
     returns-3
     same-length-4
-    returns-4)
+    returns-4
+    same-length-5
+    returns-5)

@@ -18,6 +18,9 @@ maximum-count c = rw (c .enum-told2 .given .1) at (c .before .before .before .pr
 quote-count : (c : tie.After-enum-told3) → 3 ≤ length (c .before .before .before .args .numbers .now)
 quote-count c = rw (c .enum-told3 .given .1) at (c .before .before .before .pre .1)
 
+trial-count : (c : tie.After-enum-told4) → 3 ≤ length (c .before .before .before .args .numbers .now)
+trial-count c = rw (c .enum-told4 .given .1) at (c .before .before .before .pre .1)
+
 enum-told : tie.Need-enum-told
 enum-told c = c .match .keys1
 
@@ -78,6 +81,30 @@ part-quote-end c = search needs
 quote-requires : tie.Need-quote-requires
 quote-requires c κs = search needs
 
+enum-told-4 : tie.Need-enum-told-4
+enum-told-4 c = c .match .keys4
+
+shared-slice-read-t33 : tie.Need-shared-slice-read-t33
+shared-slice-read-t33 c = omega (arith, trial-count (c .before))
+
+shared-slice-read-t35 : tie.Need-shared-slice-read-t35
+shared-slice-read-t35 c = omega (arith, trial-count (c .before .before))
+
+shared-slice-read-t37 : tie.Need-shared-slice-read-t37
+shared-slice-read-t37 c = omega (arith, trial-count (c .before .before .before))
+
+sub-trial : tie.Need-sub-trial
+sub-trial c = omega (arith, trial-count (c .before .before .before))
+
+part-trial-start : tie.Need-part-trial-start
+part-trial-start c = omega (arith, trial-count (c .before .before .before))
+
+part-trial-end : tie.Need-part-trial-end
+part-trial-end c = search needs
+
+trial-requires : tie.Need-trial-requires
+trial-requires c κs = search needs
+
 returns : tie.Need-returns
 returns c = rw (c .before .before .before .before .before .enum-told .given .1) (c .benchmark .ensures)
 
@@ -86,6 +113,9 @@ returns-2 c = rw (c .before .before .before .before .before .enum-told2 .given .
 
 returns-3 : tie.Need-returns-3
 returns-3 c = rw (c .before .before .before .before .before .enum-told3 .given .1) (rw (rest 3 (c .before .before .before .before .before .before .before .before .args .numbers .now)) at (c .quote .ensures))
+
+returns-4 : tie.Need-returns-4
+returns-4 c = rw (c .before .before .before .before .before .enum-told4 .given .1) (rw (rest 3 (c .before .before .before .before .before .before .before .before .args .numbers .now)) at (c .trial .ensures))
 
 pub told-spec : {M : Type 1} → statement M
 told-spec =
@@ -111,6 +141,15 @@ told-spec =
     part-quote-start
     part-quote-end
     quote-requires
+    enum-told-4
+    shared-slice-read-t33
+    shared-slice-read-t35
+    shared-slice-read-t37
+    sub-trial
+    part-trial-start
+    part-trial-end
+    trial-requires
     returns
     returns-2
-    returns-3)
+    returns-3
+    returns-4)

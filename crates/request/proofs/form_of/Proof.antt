@@ -58,6 +58,12 @@ enum-told-8 c = search needs
 formed-requires-8 : tie.Need-formed-requires-8
 formed-requires-8 c κs = search needs
 
+enum-told-9 : tie.Need-enum-told-9
+enum-told-9 c = search needs
+
+formed-requires-9 : tie.Need-formed-requires-9
+formed-requires-9 c κs = search needs
+
 returns : tie.Need-returns
 returns c = rw (c .before .before .before .before .before .before .word .given .1, c .before .before .before .enum-told .given .1) (c .formed .ensures)
 
@@ -82,6 +88,9 @@ returns-7 c = rw (c .before .before .before .before .before .before .word2 .give
 returns-8 : tie.Need-returns-8
 returns-8 c = rw (c .before .before .before .before .before .before .word2 .given .1, c .before .before .before .enum-told8 .given .1) (c .formed8 .ensures)
 
+returns-9 : tie.Need-returns-9
+returns-9 c = rw (c .before .before .before .before .before .before .word2 .given .1, c .before .before .before .enum-told9 .given .1) (c .formed9 .ensures)
+
 pub form-of-spec : {M : Type 1} → statement M
 form-of-spec =
     tie.close
@@ -104,6 +113,8 @@ form-of-spec =
     formed-requires-7
     enum-told-8
     formed-requires-8
+    enum-told-9
+    formed-requires-9
     returns
     returns-2
     returns-3
@@ -111,4 +122,5 @@ form-of-spec =
     returns-5
     returns-6
     returns-7
-    returns-8)
+    returns-8
+    returns-9)

@@ -1,7 +1,7 @@
 -- `verdict::has` meets its contract.
 -- Assumes nothing.
 use mathlib.Core.Path.{refl}
-use Rattle.verdict.specs.Cells.{bit}
+use Rattle.laws.specs.Notions.{bit}
 use borrow.Author.Needs.{needs}
 use Rattle.verdict.proofs.has.Statement.{statement}
 use Rattle.verdict.proofs.has.Tie as tie

@@ -1,0 +1,134 @@
+-- What TRIAL tells, by what is read from the accepted calls: the codes that a SET made in its place would send back to draft.
+-- Assumes nothing.
+use mathlib.Core.Path.{_≡_, refl, sym, _∙_, ap, ap₂, subst}
+use mathlib.Core.Bool.{Bool, true, false, cond, not, _&&_}
+use mathlib.Core.List.{List, [], _∷_}
+use mathlib.Core.Logic.{_↔_}
+use mathlib.Core.Option.{Option, none, some}
+use Prim.Native.Nat.{ℕ, suc, _<_}
+use native.Mathlib.Decide.{decLt}
+use native.Mathlib.Omega.{arith}
+use lib.Dec.{eqb}
+use borrow.Author.Tests.{eqb-true}
+use Rattle.laws.specs.Notions.{bit, setOf}
+use Rattle.laws.proofs.Every.{and-left}
+use Rattle.laws.proofs.Never.{never}
+use Rattle.laws.proofs.Sets.{bit-of-set, bit-past-set}
+use Rattle.tariff.specs.declared.Tariff.{Tariff}
+use Rattle.book.specs.declared.Book.{Book}
+use Rattle.book.specs.Calls.{Sheet, Act, SET, PUT, OPEN, CLOSE, DROP, Call, call, Answer, refusalNumber, isNone, isAccepted}
+use Rattle.book.specs.Checks.{Holding, isOpen, inside, answer}
+use Rattle.book.specs.Book.{bookReadings, step}
+use Rattle.book.proofs.Places.{code-range}
+use Rattle.book.proofs.Accepted.{open-accepted}
+use Rattle.queries.specs.Queries.{Telling, refused, falling}
+use Rattle.trial.specs.Trial.{isDraft, falls, codesWhere, toldUnless, trialOf}
+use Rattle.history.specs.History.{sheetOf, tariffAt, openOf, staysOpen, heldAs, readings, noted, logAfter}
+use Rattle.history.specs.Claim.{WouldFall, TrialAnswer}
+
+-- an open code has a tariff
+abbrev pub Tariffed : List Act → Type 0
+Tariffed log = (k : ℕ) → openOf log k ≡ true → (x : Tariff) × (tariffAt log k ≡ some x)
+
+held-tariff : (t : Option Tariff) (o : Bool) (h : Holding) → heldAs t o ≡ some h → (x : Tariff) × (t ≡ some x)
+held-tariff none o h e = never (cc)
+held-tariff (some x) o h e = (x, refl)
+
+module _ (log : List Act) (has : Tariffed log) where
+  -- a call on code j that leaves it not open
+  not-open : (j k : ℕ) (t : Option Tariff) (c : Bool) → cond c false (openOf log k) ≡ true → (x : Tariff) × (cond c t (tariffAt log k) ≡ some x)
+  not-open j k t true e = never (cc)
+  not-open j k t false e = has k e
+
+  tariffed-act : (a : Act) → isAccepted (answer (readings log) a) ≡ true → Tariffed (a ∷ log)
+  tariffed-act (SET s) e k o = has k (and-left (openOf log k) (staysOpen s (tariffAt log k)) o)
+  tariffed-act (PUT j x) e k o = not-open j k _ (eqb j k) o
+  tariffed-act (OPEN j) e k o = go (eqb j k) refl o
+    where
+      go : (c : Bool) → eqb j k ≡ c → cond c true (openOf log k) ≡ true → (x : Tariff) × (tariffAt log k ≡ some x)
+      go true q o =
+          let f = open-accepted j (heldAs (tariffAt log j) (openOf log j)) (sheetOf log) e in
+          subst (λ i. (x : Tariff) × (tariffAt log i ≡ some x)) (eqb-true j k q) (held-tariff (tariffAt log j) (openOf log j) (f .h) (f .its))
+      go false q o = has k o
+  tariffed-act (CLOSE j) e k o = closed (eqb j k) o
+    where
+      closed : (c : Bool) → cond c false (openOf log k) ≡ true → (x : Tariff) × (tariffAt log k ≡ some x)
+      closed true o = never (cc)
+      closed false o = has k o
+  tariffed-act (DROP j) e k o = not-open j k none (eqb j k) o
+
+  tariffed-noted : (c : Call) → Tariffed (noted log c)
+  tariffed-noted c = go (isAccepted (answer (readings log) (c .act))) refl
+    where
+      go : (t : Bool) → isAccepted (answer (readings log) (c .act)) ≡ t → Tariffed (cond t (c .act ∷ log) log)
+      go true e = tariffed-act (c .act) e
+      go false e = has
+
+pub tariffed : (cs : List Call) (log : List Act) → Tariffed log → Tariffed (logAfter log cs)
+unfolding logAfter
+tariffed [] log has = has
+tariffed (c ∷ cs) log has = tariffed cs (noted log c) (tariffed-noted log has c)
+
+-- a refusal is told exactly where there is one
+told-refusal : (o : Option ℕ) (codes n : ℕ) → (toldUnless o (falling codes) ≡ refused n) ↔ (o ≡ some n)
+told-refusal none codes n = (λ e. never (cc), λ e. never (cc))
+told-refusal (some m) codes n = (λ e. cc, λ e. cc)
+
+no-refusal : (a : Answer) → isAccepted a ≡ true → refusalNumber a ≡ none
+no-refusal a e = go (refusalNumber a) e
+  where
+    go : (o : Option ℕ) → isNone o ≡ true → o ≡ none
+    go none e = refl
+    go (some n) e = never (cc)
+
+-- open before and a draft after, of a code whose tariff stays
+fall-exactly : (t : Option Tariff) (o q : Bool) → (o ≡ true → (x : Tariff) × (t ≡ some x))
+    → ((isOpen (heldAs t o) && isDraft (heldAs t q)) ≡ true) ↔ ((o ≡ true) × (q ≡ false))
+fall-exactly none o q h = (λ e. never (cc), λ e. let f = h (e .0) .1 in never (cc))
+fall-exactly (some x) false q h = (λ e. never (cc), λ e. never (let z = e .0 in cc))
+fall-exactly (some x) true true h = (λ e. never (cc), λ e. never (let z = e .1 in cc))
+fall-exactly (some x) true false h = (λ e. (refl, refl), λ e. refl)
+
+-- a TRIAL on a book of which the checks read what they read from the log, before a SET and after it
+module _ (log : List Act) (b : Book) (s : Sheet) (same : bookReadings b ≡ readings log)
+    (after : bookReadings (step b (call (SET s)) .book) ≡ readings (noted log (call (SET s))))
+    (has : Tariffed log) (known : (k : ℕ) (x : Tariff) → tariffAt log k ≡ some x → inside k ≡ true) where
+  abbrev next : List Act
+  next = noted log (call (SET s))
+
+  same-tariff : (k : ℕ) → tariffAt next k ≡ tariffAt log k
+  same-tariff k = go (isAccepted (answer (readings log) (SET s)))
+    where
+      go : (t : Bool) → tariffAt (cond t (SET s ∷ log) log) k ≡ tariffAt log k
+      go true = refl
+      go false = refl
+
+  falls-read : (k : ℕ) → falls b (step b (call (SET s)) .book) k
+      ≡ (isOpen (heldAs (tariffAt log k) (openOf log k)) && isDraft (heldAs (tariffAt log k) (openOf next k)))
+  falls-read k =
+      ap₂ (λ r q. isOpen (r .held k) && isDraft (q .held k)) same after
+      ∙ ap (λ t. isOpen (heldAs (tariffAt log k) (openOf log k)) && isDraft (heldAs t (openOf next k))) (same-tariff k)
+
+  codes-are : (i : ℕ) → (bit (codesWhere (falls b (step b (call (SET s)) .book))) i ≡ true) ↔ WouldFall log s i
+  codes-are i = go (decLt i 32)
+    where
+      test : ℕ → Bool
+      test j = falls b (step b (call (SET s)) .book) (suc j)
+
+      f : ((isOpen (heldAs (tariffAt log (suc i)) (openOf log (suc i))) && isDraft (heldAs (tariffAt log (suc i)) (openOf next (suc i)))) ≡ true) ↔ WouldFall log s i
+      f = fall-exactly (tariffAt log (suc i)) (openOf log (suc i)) (openOf next (suc i)) (has (suc i))
+
+      go : Dec (i < 32) → (bit (setOf 32 test) i ≡ true) ↔ WouldFall log s i
+      go (yes h) = (λ e. f .0 (sym (bit-of-set 32 test i h ∙ falls-read (suc i)) ∙ e), λ w. bit-of-set 32 test i h ∙ falls-read (suc i) ∙ f .1 w)
+      go (no h) = (
+        λ e. never (let z : false ≡ true = sym (bit-past-set 32 test i (omega arith)) ∙ e in cc),
+        λ w. let x = has (suc i) (w .0) in absurd (omega (arith, code-range (suc i) (known (suc i) (x .0) (x .1)) .1)),
+      )
+
+  pub trial-answer : TrialAnswer log s (trialOf b s)
+  unfolding trialOf step
+  trial-answer =
+      record {
+        refused-exactly = told-refusal (refusalNumber (answer (readings log) (SET s))) _;
+        falling-exactly = λ e. (_, ap (λ o. toldUnless o (falling (codesWhere (falls b (step b (call (SET s)) .book))))) (no-refusal (answer (readings log) (SET s)) e), codes-are);
+      }

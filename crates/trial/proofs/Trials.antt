@@ -1,0 +1,38 @@
+-- What TRIAL answers, by SET's checks and the places judged.
+-- Assumes nothing.
+use mathlib.Core.Path.{_≡_, refl, sym, _∙_, ap, ap₂}
+use mathlib.Core.List.{List, map}
+use Prim.Native.Nat.{ℕ}
+use Rattle.refusal.specs.declared.Check.{Check}
+use Rattle.refusal.specs.declared.Check.the-variants.{Pass, Refuse}
+use Rattle.refusal.specs.Checks.{checked}
+use Rattle.benchmark.specs.Benchmark.{setCheck}
+use Rattle.book.specs.declared.Place.{Place}
+use Rattle.book.specs.declared.Book.{Book}
+use Rattle.book.specs.Calls.{Sheet, SET, call, Answer, accepted, refusalNumber}
+use Rattle.book.specs.Calls as calls
+use Rattle.book.specs.Checks.{figuresOf, answer}
+use Rattle.book.specs.Book.{bookReadings, under, step}
+use Rattle.book.proofs.Steps.{answered-by, made}
+use Rattle.queries.specs.Queries.{refused, falling}
+use Rattle.trial.specs.Trial.{falls, codesWhere, toldUnless, trialOf}
+use Rattle.trial.specs.Places.{fellFrom}
+
+module _ (b : Book) (s : Sheet) where
+  abbrev checksOf : Check → Answer
+  checksOf c = checked calls.refused c accepted
+
+  pub trial-refused : (n : ℕ) → setCheck (s .fields) (s .period) ≡ Refuse n → trialOf b s ≡ refused n
+  unfolding trialOf
+  trial-refused n e =
+      ap (λ a. toldUnless (refusalNumber a) (falling (codesWhere (falls b (step b (call (SET s)) .book)))))
+      (answered-by b (call (SET s)) ∙ ap checksOf e)
+
+  pub trial-told : setCheck (s .fields) (s .period) ≡ Pass → (after : List Place) → after ≡ map (under (figuresOf s)) (b .places)
+      → trialOf b s ≡ falling (codesWhere (fellFrom (b .places) after))
+  unfolding trialOf
+  trial-told e after p =
+      let a : answer (bookReadings b) (SET s) ≡ accepted = ap checksOf e in
+      ap₂ (λ q d. toldUnless (refusalNumber q) (falling (codesWhere (falls b d))))
+      (answered-by b (call (SET s)) ∙ a) (made b (call (SET s)) accepted a refl)
+      ∙ ap (λ ps. falling (codesWhere (fellFrom (b .places) ps))) (sym p)

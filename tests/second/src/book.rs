@@ -130,6 +130,21 @@ impl Book {
         Ok(())
     }
 
+    /// The set of codes that SET would make drafts, bit code - 1 for each: it is done on a copy,
+    /// and the book itself is untouched.
+    pub fn trial(&self, year: u32, month: u32, t: u32, fields: &[u32]) -> Result<u32, Refusal> {
+        let mut copy = self.clone();
+        copy.set(year, month, t, fields)?;
+        let mut fallen = 0;
+        for code in 1..=PLACES as u32 {
+            let (before, after) = (self.state(code), copy.state(code));
+            if before == Some(State::Open) && after == Some(State::Draft) {
+                fallen |= 1 << (code - 1);
+            }
+        }
+        Ok(fallen)
+    }
+
     /// Puts a tariff record into a place as a draft, over any draft.
     pub fn put(&mut self, code: u32, numbers: &[u32]) -> Result<(), Refusal> {
         let place = self.place_mut(code)?;

@@ -31,7 +31,7 @@ const SILENT: [&[u8]; 8] = [
 ];
 
 /// Lines that have an answer whatever the book holds.
-const ANSWERED: [&[u8]; 8] = [
+const ANSWERED: [&[u8]; 10] = [
     b"open 33",
     b"open",
     b"opens 1",
@@ -40,6 +40,8 @@ const ANSWERED: [&[u8]; 8] = [
     b"\xff",
     b"benchmark 14 0 0 0\r",
     b"put 0000000000000000000000033",
+    b"trial 2023 10 3",
+    b"trial 2023 10\r",
 ];
 
 struct Conversation {
@@ -103,6 +105,9 @@ impl Conversation {
             self.desk.feed(part, &mut owed);
             if owed.len() > before {
                 lines.push(self.name());
+                if self.line.starts_with(b"trial ") {
+                    self.tally.one("trials answered in conversation");
+                }
             }
         }
         self.running.send(piece.to_vec());
@@ -256,7 +261,7 @@ impl Conversation {
     fn line_at_the_limit(&mut self) -> Vec<u8> {
         let mut line = self
             .random
-            .pick(&[&b"open 33 "[..], b"#", b"", b"close 1"])
+            .pick(&[&b"open 33 "[..], b"#", b"", b"close 1", b"trial 1 2 3"])
             .to_vec();
         let length = LINE_LIMIT - 1 + self.random.index(4);
         line.resize(length, b' ');

@@ -4,19 +4,23 @@
 use std::cmp::Ordering;
 use std::fmt::Write;
 
-use crate::book::{Book, State, PLACES};
+use crate::book::{Book, NotOpened, State, PLACES};
 use crate::period_days;
 use crate::sheet::{field_range, FIELDS};
 use crate::tally::Tally;
 use crate::tariff::{MONTH_LIMIT, RECORD};
+use trials::Tried;
 
 /// What is met in the scripts of one or more books.
 pub struct Counts {
     pub tally: Tally,
     /// The period in force, as the calls so far have it.
     period: Option<[u32; 3]>,
-    /// The key of the sheet in force and its period.
+    /// The key of the sheet in force and its period, and that of its fields alone.
     in_force: u64,
+    fields_in_force: u64,
+    /// The last trial, as long as no call has changed the book since.
+    tried: Option<Tried>,
     records: [[u32; RECORD]; PLACES],
     used: [bool; PLACES],
     open: [bool; PLACES],
@@ -33,6 +37,8 @@ impl Default for Counts {
             tally: Tally::default(),
             period: None,
             in_force: 0,
+            fields_in_force: 0,
+            tried: None,
             records: [[0; RECORD]; PLACES],
             used: [false; PLACES],
             open: [false; PLACES],
@@ -52,10 +58,13 @@ macro_rules! count {
     }};
 }
 
+mod trials;
+
 impl Counts {
     /// A script begins on a fresh book.
     pub fn fresh_book(&mut self) {
         self.period = None;
+        self.tried = None;
         self.used = [false; PLACES];
         self.open = [false; PLACES];
     }
@@ -116,8 +125,10 @@ impl Counts {
         let numbers = std::mem::take(&mut self.numbers);
         let values = std::mem::take(&mut self.values);
         let refusal = if ok { 0 } else { values[0] };
+        self.after_trial(call, &numbers, refusal);
         match call {
             "set" => self.set(&numbers, refusal, book),
+            "trial" => self.trial(&numbers, refusal, &values, book),
             "put" if ok => self.put(&numbers),
             "open" => self.open(&numbers, refusal, &values),
             "close" if ok => {
@@ -137,19 +148,30 @@ impl Counts {
     }
 
     fn set(&mut self, numbers: &[u32], refusal: u64, book: &Book) {
+        let submitted = key(numbers);
+        self.tally.different("sheets submitted", submitted);
+        if refusal > 0 {
+            return self.refused_sheet("set", numbers, refusal);
+        }
+        self.tally.different("sheets accepted", submitted);
+        if self.period.is_some() && self.in_force == submitted {
+            self.tally.one("set of the sheet in force");
+        }
+        self.in_force = submitted;
+        self.fields_in_force = key(&numbers[3..]);
+        self.accepted_sheet([numbers[0], numbers[1], numbers[2]], &numbers[3..], book);
+    }
+
+    /// A call that takes a sheet was refused: for what, if that is all that was wrong.
+    fn refused_sheet(&mut self, call: &str, numbers: &[u32], refusal: u64) {
         let period = [numbers[0], numbers[1], numbers[2]];
         let fields = &numbers[3..];
-        let key = key(numbers);
-        self.tally.different("sheets submitted", key);
+        // The names of the same count for SET and for TRIAL.
+        let name = |set: &'static str, trial: &'static str| match call {
+            "set" => set,
+            _ => trial,
+        };
         match refusal {
-            0 => {
-                self.tally.different("sheets accepted", key);
-                if self.period.is_some() && self.in_force == key {
-                    self.tally.one("set of the sheet in force");
-                }
-                self.in_force = key;
-                self.accepted_sheet(period, fields, book);
-            }
             2 => {
                 let tally = &mut self.tally;
                 let field = only(|field| {
@@ -159,25 +181,35 @@ impl Counts {
                 if let Some(field) = field {
                     let (lowest, highest) = field_range(field);
                     let value = fields[field];
-                    if value == highest + 1 {
-                        tally.different("fields alone, one above their range", field as u64);
+                    let what = if value == highest + 1 {
+                        name(
+                            "fields alone, one above their range",
+                            "fields tried alone, one above their range",
+                        )
                     } else if value < lowest {
-                        tally.different("fields alone, one below their range", field as u64);
+                        name(
+                            "fields alone, one below their range",
+                            "fields tried alone, one below their range",
+                        )
                     } else {
-                        tally.different("fields alone, far above their range", field as u64);
-                    }
+                        name(
+                            "fields alone, far above their range",
+                            "fields tried alone, far above their range",
+                        )
+                    };
+                    tally.different(what, field as u64);
                 }
             }
             3 => {
                 let [year, month, t] = period;
                 if period_days(2018, month, t).is_some() && [2017, 2100].contains(&year) {
-                    count!(self, "set refused 3 for the year {year} alone");
+                    count!(self, "{call} refused 3 for the year {year} alone");
                 }
                 if period_days(year, 1, t).is_some() && [0, 13].contains(&month) {
-                    count!(self, "set refused 3 for the month {month} alone");
+                    count!(self, "{call} refused 3 for the month {month} alone");
                 }
                 if period_days(year, month, 1).is_some() && [0, 13].contains(&t) {
-                    count!(self, "set refused 3 for a t of {t} alone");
+                    count!(self, "{call} refused 3 for a t of {t} alone");
                 }
             }
             4 => {
@@ -194,7 +226,10 @@ impl Counts {
                     2 * indexed >= 200_000_001 * u64::from(fields[22 + index])
                 });
                 if let Some(field) = term {
-                    let what = "terms that alone were above 100,000,000";
+                    let what = name(
+                        "terms that alone were above 100,000,000",
+                        "terms tried that alone were above 100,000,000",
+                    );
                     self.tally.different(what, field as u64);
                 }
             }
@@ -225,14 +260,26 @@ impl Counts {
         if [1, 12].contains(&t) {
             count!(self, "periods with a t of {t}");
         }
+        self.ends_of_fields(
+            fields,
+            "fields accepted at their lowest",
+            "fields accepted at their highest",
+        );
+    }
+
+    /// Counts the fields that are at an end of their range.
+    fn ends_of_fields(
+        &mut self,
+        fields: &[u32],
+        at_lowest: &'static str,
+        at_highest: &'static str,
+    ) {
         for (field, &value) in fields.iter().enumerate() {
             let (lowest, highest) = field_range(field);
             if value == lowest {
-                let what = "fields accepted at their lowest";
-                self.tally.different(what, field as u64);
+                self.tally.different(at_lowest, field as u64);
             } else if value == highest {
-                let what = "fields accepted at their highest";
-                self.tally.different(what, field as u64);
+                self.tally.different(at_highest, field as u64);
             }
         }
     }

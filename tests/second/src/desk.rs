@@ -10,6 +10,7 @@ pub const LINE_LIMIT: usize = 16_384;
 #[derive(Clone, Copy)]
 enum Call {
     Set,
+    Trial,
     Put,
     Open,
     Close,
@@ -23,6 +24,7 @@ impl Call {
     fn from_word(word: &[u8]) -> Option<Call> {
         Some(match word {
             b"set" => Call::Set,
+            b"trial" => Call::Trial,
             b"put" => Call::Put,
             b"open" => Call::Open,
             b"close" => Call::Close,
@@ -37,6 +39,7 @@ impl Call {
     fn takes(self) -> &'static str {
         match self {
             Call::Set => "set takes at least 3 numbers",
+            Call::Trial => "trial takes at least 3 numbers",
             Call::Put => "put takes at least 1 number",
             Call::Open => "open takes 1 number",
             Call::Close => "close takes 1 number",
@@ -85,6 +88,11 @@ impl Desk {
 
     pub fn book(&self) -> &Book {
         &self.book
+    }
+
+    /// The book, to be changed other than by lines.
+    pub fn book_mut(&mut self) -> &mut Book {
+        &mut self.book
     }
 
     /// Takes a piece of the input, which may end inside a line, and answers its whole lines.
@@ -162,6 +170,12 @@ impl Desk {
         match (call, &self.numbers[..]) {
             (Call::Set, &[year, month, t, ref fields @ ..]) => {
                 accepted(book.set(year, month, t, fields), out)
+            }
+            (Call::Trial, &[year, month, t, ref fields @ ..]) => {
+                match book.trial(year, month, t, fields) {
+                    Ok(fallen) => values(&[u64::from(fallen)], out),
+                    Err(refusal) => refused(refusal, out),
+                }
             }
             (Call::Put, &[code, ref record @ ..]) => accepted(book.put(code, record), out),
             (Call::Open, &[code]) => match book.open(code) {

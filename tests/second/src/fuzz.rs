@@ -89,6 +89,8 @@ impl Fuzz {
         let mut expected = Vec::new();
         desk.feed(&input, &mut expected);
         desk.finish(&mut expected);
+        let mut lines = input.split(|&byte| byte == b'\n');
+        let trial = lines.any(|line| line.starts_with(b"trial "));
 
         let ways = ["from a file", "in one write", "in pieces"];
         let way = random.index(ways.len());
@@ -126,6 +128,9 @@ impl Fuzz {
             )
         })?;
         tally.one("fuzz: cases");
+        if trial {
+            tally.one("fuzz: inputs with a trial");
+        }
         tally.one(&format!("fuzz: {sort}"));
         tally.one(&format!("fuzz: inputs read {}", ways[way]));
         Ok(())
@@ -245,13 +250,14 @@ impl Case<'_> {
     }
 
     fn line_of(&mut self, kind: usize, length: usize) -> Vec<u8> {
-        let calls: [&[u8]; 6] = [
+        let calls: [&[u8]; 7] = [
             b"open 33",
             b"close 1",
             b"benchmark 13 1 1 1",
             b"quote 1 0 1 100 100 100",
             b"put 2 1 1 0 16383 3 0 0 0 0 0 0 0 0",
             b"maximum 0 0 0 120000",
+            b"trial 2023 10 3",
         ];
         let call = self.random.pick(&calls);
         let mut line = Vec::new();
@@ -272,7 +278,8 @@ impl Case<'_> {
                 line.extend_from_slice(numbers);
             }
             6 => {
-                line.extend_from_slice(self.random.pick(&[&b"set"[..], b"put", b"quote"]));
+                let calls: [&[u8]; 4] = [b"set", b"put", b"quote", b"trial"];
+                line.extend_from_slice(self.random.pick(&calls));
                 while line.len() + 11 < length {
                     line.push(b' ');
                     let number = self.random.any_size(u32::MAX);

@@ -83,7 +83,7 @@ pub fn fixed_seeds(program: &Program) -> Result<Tally, String> {
     all_jobs(SEEDS, cores(), |job| random_calls(program, job + 1))
 }
 
-/// Each period set and quoted in.
+/// Each period tried, set and quoted in.
 pub fn every_period(program: &Program) -> Result<Tally, String> {
     let mut counts = Counts::default();
     side_by_side(program, &mut in_parts(&all_periods()), &mut counts)

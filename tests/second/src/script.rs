@@ -9,6 +9,7 @@ mod noise;
 mod orders;
 mod sheets;
 mod tariffs;
+mod trials;
 
 pub use edges::all_periods;
 
@@ -18,7 +19,7 @@ use crate::random::Random;
 use crate::sheet::{field_range, FIELDS, REGIONS};
 use crate::tally::Tally;
 use crate::tariff::{MONTH_LIMIT, RECORD};
-use crate::{period_days, Breach, NotOpened};
+use crate::{period_days, Breach, NotOpened, Refusal};
 
 const MONEY: u32 = 100_000_000;
 const STANDING_LIMIT: u32 = 1_000_000;
@@ -68,6 +69,7 @@ fn reference() -> Dated {
 #[derive(Clone, Copy)]
 enum Turn {
     Set,
+    Trial,
     Put,
     Open,
     Close,
@@ -82,8 +84,9 @@ enum Turn {
 }
 
 /// Turns of a random script, by weight.
-const TURNS: [(Turn, u64); 12] = [
+const TURNS: [(Turn, u64); 13] = [
     (Turn::Set, 34),
+    (Turn::Trial, 24),
     (Turn::Put, 170),
     (Turn::Open, 190),
     (Turn::Close, 70),
@@ -93,7 +96,7 @@ const TURNS: [(Turn, u64); 12] = [
     (Turn::Quote, 190),
     (Turn::Edge, 45),
     (Turn::Fill, 1),
-    (Turn::TwoFaults, 12),
+    (Turn::TwoFaults, 14),
     (Turn::FieldEnd, 3),
 ];
 
@@ -144,7 +147,7 @@ pub struct Writer {
     random: Random,
     book: Book,
     /// A book with the same sheet, for trying tariffs out at code 1.
-    trial: Book,
+    scratch: Book,
     sheet: Dated,
     records: [Option<[u32; RECORD]>; 32],
     breach: Option<(u32, Breach)>,
@@ -183,7 +186,7 @@ impl Iterator for Writer {
                 Turn::Set if self.calls < self.bare => {
                     let mut dated = self.good_sheet();
                     self.spoil(&mut dated);
-                    if self.trial.clone().set_dated(&dated).is_err() {
+                    if self.scratch.clone().set_dated(&dated).is_err() {
                         self.set(&dated);
                     }
                 }
@@ -238,8 +241,19 @@ pub fn speed_script(seed: u64, lines: usize) -> Vec<u8> {
 }
 
 impl Book {
-    fn set_dated(&mut self, dated: &Dated) -> Result<(), crate::Refusal> {
+    fn set_dated(&mut self, dated: &Dated) -> Result<(), Refusal> {
         self.set(dated.year, dated.month, dated.t, &dated.fields)
+    }
+
+    fn trial_dated(&self, dated: &Dated) -> Result<u32, Refusal> {
+        self.trial(dated.year, dated.month, dated.t, &dated.fields)
+    }
+}
+
+impl Dated {
+    /// The numbers of a call that takes a sheet.
+    fn numbers(&self) -> Vec<u32> {
+        [&[self.year, self.month, self.t], &self.fields[..]].concat()
     }
 }
 
@@ -253,12 +267,14 @@ impl Writer {
     }
 
     fn plain_lines(seed: u64, limit: usize) -> Writer {
-        let mut trial = Book::new();
-        trial.set_dated(&reference()).expect("the reference sheet");
+        let mut scratch = Book::new();
+        scratch
+            .set_dated(&reference())
+            .expect("the reference sheet");
         Writer {
             random: Random::new(seed),
             book: Book::new(),
-            trial,
+            scratch,
             sheet: reference(),
             records: [None; 32],
             breach: None,
@@ -341,14 +357,18 @@ impl Writer {
     }
 
     fn set(&mut self, dated: &Dated) {
-        let mut numbers = vec![dated.year, dated.month, dated.t];
-        numbers.extend_from_slice(&dated.fields);
-        self.call("set", &numbers);
+        self.call("set", &dated.numbers());
         if self.book.set_dated(dated).is_ok() {
-            self.trial.set_dated(dated).expect("a sheet taken before");
+            self.scratch.set_dated(dated).expect("a sheet taken before");
             self.sheet = dated.clone();
             self.breach = None;
         }
+    }
+
+    /// Gives the set of codes that would fall.
+    fn trial(&mut self, dated: &Dated) -> Result<u32, Refusal> {
+        self.call("trial", &dated.numbers());
+        self.book.trial_dated(dated)
     }
 
     fn put(&mut self, code: u32, record: &[u32]) {
@@ -390,6 +410,7 @@ impl Writer {
     fn take(&mut self, turn: Turn) {
         match turn {
             Turn::Set => self.any_set(),
+            Turn::Trial => self.any_trial(),
             Turn::Put => self.any_put(),
             Turn::Open => {
                 let code = self.code_in(State::Draft, 5);
@@ -407,6 +428,7 @@ impl Writer {
                 self.drop_code(code);
             }
             Turn::Edge => self.edge(),
+            Turn::Fill if self.random.one_in(2) => self.trials_of_32(),
             Turn::Fill => self.fill(),
             Turn::TwoFaults => self.two_faults(),
             Turn::FieldEnd => self.end_of_a_field(),
@@ -438,14 +460,19 @@ impl Writer {
                 let Some(code) = self.used_code() else {
                     return self.call("benchmark", &[region, arrangement, method, 0]);
                 };
-                let record = self.record(code);
-                let region = self.random_bit(record[3]);
-                let method = self.random_bit(record[4]);
-                let t = self.book.t().unwrap_or(3) as usize;
-                let months = self.months(&record, t);
-                self.quote(code, region, method, &months);
+                self.plain_quote(code);
             }
         }
+    }
+
+    /// A quote of a used code, in a cell that it is offered in.
+    fn plain_quote(&mut self, code: u32) {
+        let record = self.record(code);
+        let region = self.random_bit(record[3]);
+        let method = self.random_bit(record[4]);
+        let t = self.book.t().unwrap_or(3) as usize;
+        let months = self.months(&record, t);
+        self.quote(code, region, method, &months);
     }
 
     /// Questions with something out of its range.

@@ -258,9 +258,9 @@ fn no_list_of_months_contradicts_open() {
     assert!(tied > 100, "{tied} tied");
 }
 
-/// A sheet demotes exactly the open tariffs that it would not open.
+/// A sheet demotes exactly the open tariffs that it would not open, and a trial names them.
 #[test]
-fn set_judges_as_open_does() {
+fn set_and_trial_judge_as_open_does() {
     let mut random = Random::new(7);
     let (mut fell, mut stayed) = (0, 0);
     for _ in 0..200 {
@@ -286,6 +286,7 @@ fn set_judges_as_open_does() {
         if after.set(year, month, t, &next).is_err() {
             continue;
         }
+        let named = book.trial(year, month, t, &next).unwrap();
         for code in 1..=32 {
             let was_open = book.clone().close(code).is_ok();
             let is_open = after.clone().close(code).is_ok();
@@ -293,6 +294,7 @@ fn set_judges_as_open_does() {
             let _ = reopened.close(code);
             let within = reopened.open(code).is_ok();
             assert_eq!(is_open, was_open && within);
+            assert_eq!(named >> (code - 1) & 1 == 1, was_open && !within);
             fell += u32::from(was_open && !is_open);
             stayed += u32::from(is_open);
         }

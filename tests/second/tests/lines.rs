@@ -48,6 +48,37 @@ fn answers() {
 }
 
 #[test]
+fn answers_of_trial() {
+    let set = reference_line();
+    let october = set.replace("set 2023 10 3", "trial 2023 10 1");
+    let mut input = october.clone();
+    input.push_str("open 1\nbenchmark 0 0 1 0\n");
+    input.push_str(&set);
+    input.push_str("put 1 1 1 23960 16383 3 18000 0 0 0 0 0 0 0\nopen 1\n");
+    input.push_str("put 2 1 1 23000 16383 3 18000 0 0 0 0 0 0 0\nopen 2\n");
+    input.push_str(&october);
+    input.push_str("open 1\nquote 1 0 1 0 0 0\nclose 1\n");
+    input.push_str(&october);
+    input.push_str("open 1\nput 32 1 1 23960 16383 3 18000 0 0 0 0 0 0 0\nopen 32\n");
+    input.push_str(&october);
+    input.push_str(&set.replace("set", "trial"));
+    input.push_str(&october.replace(" 10 1 ", " 13 1 "));
+    input.push_str("trial 2023 10 1\ntrial 0 0 0\ntrial 2023 10 1 5\n");
+    input.push_str(&october.replace("trial", "set"));
+    input.push_str("open 1\nclose 2\nclose 32\n");
+    assert_eq!(
+        run(input.as_bytes()),
+        "ok 0\nrefused 9\nrefused 10\n\
+         ok\nok\nok 28\nok\nok 28\n\
+         ok 1\nrefused 7\nok 7935552000000 7935750000000\nok\n\
+         ok 0\nok 28\nok\nok 28\n\
+         ok 2147483649\nok 0\nrefused 3\n\
+         refused 1\nrefused 1\nrefused 1\n\
+         ok\nrefused 11 0 1 28686000000 0\nok\nrefused 12\n"
+    );
+}
+
+#[test]
 fn lines_that_are_no_calls() {
     for (line, expected) in [
         ("opens 1", "unknown call"),
@@ -62,6 +93,13 @@ fn lines_that_are_no_calls() {
         ("drop 1 2 3", "drop takes 1 number"),
         ("set", "set takes at least 3 numbers"),
         ("set 1 2", "set takes at least 3 numbers"),
+        ("trial", "trial takes at least 3 numbers"),
+        ("trial 2023", "trial takes at least 3 numbers"),
+        ("trial 2023 10", "trial takes at least 3 numbers"),
+        ("TRIAL 2023 10 3", "unknown call"),
+        ("trials 2023 10 3", "unknown call"),
+        ("tria 2023 10 3", "unknown call"),
+        ("trial# 2023 10 3", "unknown call"),
         ("put", "put takes at least 1 number"),
         ("benchmark 0 0 0", "benchmark takes 4 numbers"),
         ("benchmark 0 0 0 0 0", "benchmark takes 4 numbers"),
@@ -77,6 +115,11 @@ fn lines_that_are_no_calls() {
         ("open 1\r 2", "word 2 is not a number from 0 to 4294967295"),
         ("open 1\r\r", "word 2 is not a number from 0 to 4294967295"),
         ("set +1", "word 2 is not a number from 0 to 4294967295"),
+        ("trial x", "word 2 is not a number from 0 to 4294967295"),
+        (
+            "trial 2023 10 3 0 4294967296 -1",
+            "word 6 is not a number from 0 to 4294967295",
+        ),
         ("put 1 1.5 x", "word 3 is not a number from 0 to 4294967295"),
         (
             "put 99999999999999999999999999999999",
@@ -155,6 +198,8 @@ fn the_longest_line() {
     assert_eq!(line(16_385, "x", "y", ""), too_long);
     // As many numbers as a line can have.
     let many = run(format!("set{}\n", " 0".repeat(8_190)).as_bytes());
+    assert_eq!(many, "refused 1\n");
+    let many = run(format!("trial{}\n", " 0".repeat(8_189)).as_bytes());
     assert_eq!(many, "refused 1\n");
     // No line feed at the end.
     assert_eq!(

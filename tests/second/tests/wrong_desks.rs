@@ -98,8 +98,31 @@ fn random_calls_find_refusals_in_a_wrong_order() {
         &[
             ("put: 8 before 7", "answered: refused 8"),
             ("set: 3 before 2", "answered: refused 3"),
+            ("trial: 3 before 2", "answered: refused 3"),
             ("quote: 13 before 10", "answered: refused 13"),
             ("maximum: 10 before 13", "answered: refused 10"),
+        ],
+        first_seed,
+    );
+}
+
+#[test]
+fn random_calls_find_what_is_wrong_with_a_trial() {
+    all_found(
+        &[
+            ("trial: bit code", " trial "),
+            ("trial: those that stay", " trial "),
+            ("trial: drafts over the cap too", " trial "),
+            ("trial: all that are drafts then", " trial "),
+            ("trial: judged by the sheet in force", "answered: ok 0"),
+            ("trial: judged by the fields in force", " trial "),
+            ("trial: judged by the period in force", " trial "),
+            ("trial: region 0 alone is looked at", " trial "),
+            ("trial: place 32 left out", " trial "),
+            ("trial: 2 and 3 exchanged", " trial "),
+            ("trial: 10 without a sheet", "answered: refused 10"),
+            ("trial: it changes the book", "expected:"),
+            ("trial: what would fall is closed", "expected:"),
         ],
         first_seed,
     );

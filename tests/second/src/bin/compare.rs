@@ -68,6 +68,15 @@ fn fixed_run(program: &Program, commit: Option<u64>, all_counts: bool) -> Result
         "different sheets submitted in them",
     );
     tell(count("sheets accepted"), "of these accepted");
+    tell(count("sheets tried"), "different sheets in trials");
+    let counts = tally.counts();
+    let same_set = counts
+        .iter()
+        .filter(|(what, _)| what.starts_with("trial, then the same set: "));
+    tell(
+        same_set.map(|(_, times)| times).sum(),
+        "trials with the same set right after them",
+    );
     tell(
         count("lines sent one by one, answered before the next"),
         "lines in conversation, each answered before the next was sent",

@@ -10,7 +10,7 @@ use std::process::ExitCode;
 use std::time::Duration;
 
 use second::desk::{Desk, LINE_LIMIT};
-use second::{period_days, Tariff};
+use second::{period_days, Book, NotOpened, Refusal, State, Tariff};
 
 const BLOCK: usize = 65_536;
 
@@ -19,6 +19,8 @@ struct WrongDesk {
     fault: String,
     desk: Desk,
     begun: Vec<u8>,
+    /// The numbers of the last SET that was accepted.
+    in_force: Vec<u32>,
 }
 
 impl WrongDesk {
@@ -78,23 +80,99 @@ impl WrongDesk {
         if self.is("silent lines are answered") && out.len() == start {
             out.extend_from_slice(b"ok\n");
         }
-        if let Some(refusal) = self.wrong_refusal(line, &out[start..]) {
+        let line = String::from_utf8_lossy(line);
+        let mut words = line.split_ascii_whitespace();
+        let call = words.next().unwrap_or_default();
+        let numbers: Vec<u32> = words.flat_map(str::parse).collect();
+        let answer = &out[start..];
+        let wrong = match (call, answer) {
+            ("trial", [b'o' | b'r', ..]) => self.wrong_trial(&numbers),
+            _ => None,
+        };
+        if let Some(answer) = wrong {
+            out.truncate(start);
+            out.extend_from_slice(answer.as_bytes());
+        } else if let Some(refusal) = self.wrong_refusal(call, &numbers, answer) {
             out.truncate(start);
             out.extend_from_slice(refusal);
+        } else if call == "set" && answer == b"ok\n" {
+            self.in_force = numbers;
         }
     }
 
+    /// Another answer to a trial than the right one, or a change of the book.
+    fn wrong_trial(&mut self, numbers: &[u32]) -> Option<String> {
+        let book = self.desk.book();
+        let codes = |test: &dyn Fn(u32) -> bool| -> u32 {
+            let met = (1..=32).filter(|&code| test(code));
+            met.map(|code| 1 << (code - 1)).sum()
+        };
+        let open = codes(&|code| book.state(code) == Some(State::Open));
+        let fallen = match trial(book, numbers, numbers) {
+            Ok(fallen) => fallen,
+            Err(Refusal::FieldRange) if self.is("trial: 2 and 3 exchanged") => {
+                return Some("refused 3\n".to_string())
+            }
+            Err(Refusal::Period) if self.is("trial: 2 and 3 exchanged") => {
+                return Some("refused 2\n".to_string())
+            }
+            Err(_) => return None,
+        };
+        let mut after = book.clone();
+        after
+            .set(numbers[0], numbers[1], numbers[2], &numbers[3..])
+            .expect("a sheet that the trial accepts");
+        let with_sheet = book.t().is_some();
+        let set = match &self.fault[..] {
+            "trial: bit code" => u64::from(fallen) << 1,
+            "trial: those that stay" => (open & !fallen).into(),
+            "trial: drafts over the cap too" => {
+                let over = |code| after.clone().open(code).is_err_and(|no| no.number() == 11);
+                codes(&over).into()
+            }
+            "trial: all that are drafts then" => {
+                codes(&|code| after.state(code) == Some(State::Draft)).into()
+            }
+            "trial: judged by the sheet in force" if with_sheet => {
+                trial(book, &self.in_force, &self.in_force).ok()?.into()
+            }
+            "trial: judged by the fields in force" if with_sheet => {
+                trial(book, numbers, &self.in_force).ok()?.into()
+            }
+            "trial: judged by the period in force" if with_sheet => {
+                trial(book, &self.in_force, numbers).ok()?.into()
+            }
+            "trial: region 0 alone is looked at" => codes(&|code| {
+                let answer = after.clone().open(code);
+                let over = matches!(answer, Err(NotOpened::OverCap(breach)) if breach.region == 0);
+                over && fallen >> (code - 1) & 1 == 1
+            })
+            .into(),
+            "trial: place 32 left out" => (fallen & !(1 << 31)).into(),
+            "trial: 10 without a sheet" if !with_sheet => return Some("refused 10\n".to_string()),
+            "trial: it changes the book" => {
+                *self.desk.book_mut() = after;
+                return None;
+            }
+            "trial: what would fall is closed" => {
+                for code in (1..=32).filter(|code| fallen >> (code - 1) & 1 == 1) {
+                    self.desk.book_mut().close(code).expect("an open one");
+                }
+                return None;
+            }
+            _ => return None,
+        };
+        Some(format!("ok {set}\n"))
+    }
+
     /// Another refusal than the one that comes first.
-    fn wrong_refusal(&self, line: &[u8], answer: &[u8]) -> Option<&'static [u8]> {
-        let line = String::from_utf8_lossy(line);
-        let mut words = line.split_ascii_whitespace();
-        let call = words.next()?;
-        let numbers: Vec<u32> = words.flat_map(str::parse).collect();
+    fn wrong_refusal(&self, call: &str, numbers: &[u32], answer: &[u8]) -> Option<&'static [u8]> {
         match (&self.fault[..], call, answer) {
             ("put: 8 before 7", "put", b"refused 7\n") if Tariff::new(&numbers[1..]).is_none() => {
                 Some(b"refused 8\n")
             }
             ("set: 3 before 2", "set", b"refused 2\n")
+            | ("trial: 3 before 2", "trial", b"refused 2\n")
                 if period_days(numbers[0], numbers[1], numbers[2]).is_none() =>
             {
                 Some(b"refused 3\n")
@@ -112,6 +190,11 @@ impl WrongDesk {
     }
 }
 
+/// A trial of the period of one call and of the fields of another.
+fn trial(book: &Book, period: &[u32], fields: &[u32]) -> Result<u32, Refusal> {
+    book.trial(period[0], period[1], period[2], &fields[3..])
+}
+
 fn work(fault: &str) -> io::Result<ExitCode> {
     let mut input = io::stdin().lock();
     let mut output = io::stdout().lock();
@@ -119,6 +202,7 @@ fn work(fault: &str) -> io::Result<ExitCode> {
         fault: fault.to_string(),
         desk: Desk::new(),
         begun: Vec::new(),
+        in_force: Vec::new(),
     };
     match fault {
         "it leaves at once" => return Ok(ExitCode::SUCCESS),

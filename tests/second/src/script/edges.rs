@@ -4,27 +4,37 @@
 use super::*;
 
 /// A sheet on which everything costs nothing.
-fn nothing() -> Vec<u32> {
+pub(super) fn nothing() -> Vec<u32> {
     let mut fields = vec![0; FIELDS];
     fields[22..36].fill(1);
     fields[93..95].fill(1);
     fields
 }
 
-/// Sets every period in turn, and quotes a standing charge of one mill a day in it.
+/// Tries and sets every period in turn, and quotes in it. The tariff is a standing charge of one
+/// mill a day. The sheets that are set allow 31 mills a month, so it stays open; those that are
+/// tried allow 30, so that the days of the period decide.
 pub fn all_periods() -> Vec<u8> {
     let mut writer = Writer::plain_lines(0, usize::MAX);
+    let sheet = |year, month, t, mills: u32| {
+        let mut fields = nothing();
+        // Region 13, single-rate, at nil and at m.
+        fields[89..91].fill(12 * mills);
+        Dated {
+            year,
+            month,
+            t,
+            fields,
+        }
+    };
     writer.put(1, &[1, 1, 1, 1 << 13, 2, 0, 0, 0, 0, 0, 0, 0, 0]);
+    writer.set(&sheet(2018, 1, 1, 31));
+    writer.open(1);
     for year in 2018..=2099 {
         for month in 1..=12 {
             for t in 1..=12 {
-                let fields = nothing();
-                writer.set(&Dated {
-                    year,
-                    month,
-                    t,
-                    fields,
-                });
+                let _ = writer.trial(&sheet(year, month, t, 30));
+                writer.set(&sheet(year, month, t, 31));
                 writer.quote(1, 13, 1, &[0; 12][..t as usize]);
             }
         }
@@ -64,6 +74,9 @@ impl Writer {
         if Book::new().set_dated(&dated).is_err() {
             dated.fields = nothing();
             place(&mut dated);
+        }
+        if self.random.one_in(2) {
+            let _ = self.trial(&dated);
         }
         self.set(&dated);
         let region = match field {

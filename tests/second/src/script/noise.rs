@@ -24,8 +24,11 @@ impl Writer {
     }
 
     pub(super) fn unknown_call(&mut self) -> Vec<u8> {
-        const WORDS: [&[u8]; 16] = [
+        const WORDS: [&[u8]; 19] = [
             b"SET 2023 10 3",
+            b"TRIAL 2023 10 3",
+            b"trials 2023 10 3",
+            b"tria 2023 10 3",
             b"Open 1",
             b"opens 1",
             b"ope 1",
@@ -66,8 +69,9 @@ impl Writer {
             b"\xc2\xb2",
             b"1\r",
         ];
-        const CALLS: [&str; 8] = [
+        const CALLS: [&str; 9] = [
             "set",
+            "trial",
             "put",
             "open",
             "close",
@@ -78,7 +82,7 @@ impl Writer {
         ];
         let call = self.random.pick(&CALLS);
         let bad = self.random.pick(&WORDS);
-        let count = if call == "set" {
+        let count = if ["set", "trial"].contains(&call) {
             self.random.pick(&[1, 2, 3, 98])
         } else {
             1 + self.random.index(15)
@@ -101,8 +105,9 @@ impl Writer {
     }
 
     pub(super) fn wrong_count(&mut self) -> Vec<u8> {
-        const CALLS: [(&str, &[usize]); 8] = [
+        const CALLS: [(&str, &[usize]); 9] = [
             ("set", &[0, 1, 2]),
+            ("trial", &[0, 1, 2]),
             ("put", &[0]),
             ("open", &[0, 2, 3, 20]),
             ("close", &[0, 2, 3, 20]),
@@ -132,12 +137,13 @@ impl Writer {
 
     /// A line next to the longest that is taken.
     pub(super) fn long_line(&mut self) -> Vec<u8> {
-        let mut line = match self.random.below(6) {
+        let mut line = match self.random.below(7) {
             0 => b"#".to_vec(),
             1 => b"open 33".to_vec(),
             2 => b"open 33 x".to_vec(),
             3 => b"put 33 0".to_vec(),
             4 => b"benchmark 0 0 0 0".to_vec(),
+            5 => b"trial 2023 10 3 0".to_vec(),
             _ => Vec::new(),
         };
         let length = LINE_LIMIT + self.random.pick(&[0, 0, 1, 1, 2, 100, 60_000]);

@@ -2,7 +2,7 @@
 
 use super::*;
 
-/// The refusals of SET that one sheet can deserve together.
+/// The refusals of SET and TRIAL that one sheet can deserve together.
 const SHEET_FAULTS: [(u32, u32); 10] = [
     (1, 2),
     (1, 3),
@@ -18,16 +18,17 @@ const SHEET_FAULTS: [(u32, u32); 10] = [
 
 impl Writer {
     pub(super) fn two_faults(&mut self) {
-        match self.random.below(5) {
-            0 => self.sheet_with_two_faults(),
-            1 => self.put_with_two_faults(),
-            2 => self.open_with_two_faults(),
-            3 => self.question_with_two_faults(),
+        match self.random.below(6) {
+            0 => self.sheet_with_two_faults("set"),
+            1 => self.sheet_with_two_faults("trial"),
+            2 => self.put_with_two_faults(),
+            3 => self.open_with_two_faults(),
+            4 => self.question_with_two_faults(),
             _ => self.quote_with_two_faults(),
         }
     }
 
-    fn sheet_with_two_faults(&mut self) {
+    fn sheet_with_two_faults(&mut self, call: &str) {
         let (first, second) = self.random.pick(&SHEET_FAULTS);
         let mut dated = reference();
         // The highest number first: 1 changes the length.
@@ -35,9 +36,12 @@ impl Writer {
         self.sheet_fault(first, &mut dated);
         let answer = Book::new().set_dated(&dated);
         if answer.is_err_and(|refusal| refusal.number() == first) {
-            self.note(&format!("order: set {first} before {second}"));
+            self.note(&format!("order: {call} {first} before {second}"));
         }
-        self.set(&dated);
+        match call {
+            "set" => self.set(&dated),
+            _ => drop(self.trial(&dated)),
+        }
     }
 
     /// Gives the reference sheet, or one with another fault, this fault too.

@@ -5,10 +5,10 @@ use super::*;
 
 impl Writer {
     pub(super) fn breach_of(&mut self, record: &[u32; RECORD]) -> Option<Breach> {
-        self.trial.put(1, record).expect("a tariff to be tried");
-        match self.trial.open(1) {
+        self.scratch.put(1, record).expect("a tariff to be tried");
+        match self.scratch.open(1) {
             Ok(_) => {
-                self.trial.close(1).expect("a tariff just opened");
+                self.scratch.close(1).expect("a tariff just opened");
                 None
             }
             Err(NotOpened::OverCap(breach)) => Some(breach),
@@ -58,7 +58,7 @@ impl Writer {
         for region in (0..14).filter(|region| record[3] >> region & 1 == 1) {
             for method in (0..2).filter(|method| record[4] >> method & 1 == 1) {
                 let at = |level| {
-                    self.trial
+                    self.scratch
                         .benchmark(region, arrangement, method, level)
                         .unwrap_or(0)
                 };
@@ -267,7 +267,7 @@ impl Writer {
         let arrangement = u32::from(self.random.one_in(3));
         let m = self.sheet.fields[93 + arrangement as usize];
         let at = |level| {
-            self.trial
+            self.scratch
                 .benchmark(region, arrangement, method, level)
                 .ok()
         };
@@ -479,7 +479,7 @@ impl Writer {
                 "record: percentage past n"
             }
         };
-        if self.trial.put(1, &record).is_err() {
+        if self.scratch.put(1, &record).is_err() {
             self.note(way);
         }
         record

@@ -2,3 +2,4 @@ pub mod October
 pub mod Lists
 pub mod Refused
 pub mod Queried
+pub mod Tried

@@ -40,11 +40,11 @@ told ended = refl
 told (then {a = a} e t) = rw e (ap (_∷_ a) (told t))
 
 -- a verdict says whether a tariff complies
-abbrev isOpening : Verdict → Bool
+abbrev pub isOpening : Verdict → Bool
 isOpening (opens n) = true
 isOpening (cells.over c months e) = false
 
-complying : (f : Benchmarks) (x : Tariff) → complies f x ≡ isOpening (verdict f x)
+pub complying : (f : Benchmarks) (x : Tariff) → complies f x ≡ isOpening (verdict f x)
 unfolding verdict
 complying f x = go (firstOver f x)
   where
@@ -53,16 +53,16 @@ complying f x = go (firstOver f x)
     go (some c) = refl
 
 -- the checks of the sheets and tariffs here
-passed : {c : Check} → c ≡ Pass → checked refused c accepted ≡ accepted
+pub passed : {c : Check} → c ≡ Pass → checked refused c accepted ≡ accepted
 passed e = ap (λ c. checked refused c accepted) e
 
-quarter-set : setAnswer quarter ≡ accepted
+pub quarter-set : setAnswer quarter ≡ accepted
 quarter-set = passed (starred .accepted)
 
-low-put : checked refused (recordCheck low) accepted ≡ accepted
+pub low-put : checked refused (recordCheck low) accepted ≡ accepted
 low-put = passed (starred .records .0)
 
-low-opens : verdictAnswer (verdict (figuresOf quarter) (tariffOf low)) ≡ opened 28
+pub low-opens : verdictAnswer (verdict (figuresOf quarter) (tariffOf low)) ≡ opened 28
 low-opens = ap verdictAnswer (starred .within)
 
 no-fields-set : setAnswer noFields ≡ refused 1

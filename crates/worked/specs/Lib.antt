@@ -1,3 +1,4 @@
 pub mod Worked
 pub mod Refusals
 pub mod Queried
+pub mod Tried

@@ -1,0 +1,118 @@
+-- What TRIAL tells holds: the calls before it are accepted, and the places judged by its sheet are known one by one.
+-- Assumes nothing.
+use mathlib.Core.Path.{_≡_, refl, sym, _∙_, ap}
+use mathlib.Core.Bool.{true}
+use mathlib.Core.List.{List, [], _∷_, map}
+use Prim.Native.Nat.{ℕ}
+use lib.ListN.{set, replicate}
+use Rattle.laws.specs.Notions.{every, sum, tabulate, tabulateFrom, setOf}
+use Rattle.refusal.specs.declared.Check.the-variants.{Pass, Refuse}
+use Rattle.calendar.specs.Calendar.{periodInRange}
+use Rattle.sheet.specs.Sheet.{rangeOf, fieldInRange, fieldsInRange, round, indexed, fourFit, paacFits, termsFit}
+use Rattle.benchmark.specs.Benchmark.{benchmark, wc, pc, oc, nc, paenc, headroom, panc, figure, figures, ordered, setCheck}
+use Rattle.tariff.specs.declared.Tariff.{Tariff}
+use Rattle.tariff.specs.Tariff.{tariffOf}
+use Rattle.verdict.specs.Cells.{Verdict, verdict}
+use Rattle.book.specs.declared.State.the-variants.{Draft, Open}
+use Rattle.book.specs.declared.Place.{Place}
+use Rattle.book.specs.declared.Book.{Book}
+use Rattle.book.specs.Calls.{Sheet, Act, SET, PUT, OPEN, CLOSE, call, Answer, accepted, opened, isAccepted}
+use Rattle.book.specs.Checks.{figuresOf, verdictAnswer, answer}
+use Rattle.book.specs.Book.{empty, placeWith, fresh, bookReadings, openIf, under, changed, step, bookAfter}
+use Rattle.book.proofs.Steps.{made}
+use Rattle.queries.specs.Queries.{falling}
+use Rattle.trial.specs.Trial.{codesWhere, trialOf}
+use Rattle.trial.specs.Places.{fellFrom}
+use Rattle.trial.proofs.Trials.{trial-refused, trial-told}
+use Rattle.reference.specs.SheetS.{sheetS, times}
+use Rattle.reference.proofs.Table.{starred}
+use Rattle.unlike.specs.SheetU.{loneField, lonePair}
+use Rattle.worked.proofs.October.{october-accepted, october-low, october-close, close-record}
+use Rattle.worked.proofs.Lists.{isOpening, complying, passed, quarter-set, low-put, low-opens}
+use Rattle.worked.specs.Worked.{quarter, october, noFields, low, close}
+use Rattle.worked.specs.Refusals.{withField, forPeriod, bothWrong, unordered}
+use Rattle.worked.specs.Tried.{two, three, oneClosed, Tried}
+
+-- a list of accepted calls, and the book that it leaves
+data Makes : Book → List Act → Book → Type 0 where
+  ended : {b : Book} → Makes b [] b
+  then : {b d : Book} {a : Act} {acts : List Act} (x : Answer) → answer (bookReadings b) a ≡ x → isAccepted x ≡ true → Makes (changed b a) acts d
+      → Makes b (a ∷ acts) d
+
+makes : {b d : Book} {acts : List Act} → Makes b acts d → bookAfter b (map call acts) ≡ d
+unfolding bookAfter
+makes ended = refl
+makes (then {b} {d} {a} {acts} x e q m) = ap (λ c. bookAfter c (map call acts)) (made b (call a) x e q) ∙ makes m
+
+close-opens : verdictAnswer (verdict (figuresOf quarter) (tariffOf close)) ≡ opened 28
+close-opens = ap verdictAnswer (starred .just-within)
+
+-- the five calls before each trial
+abbrev twoOpened : Book
+twoOpened = changed (changed (changed (changed (changed fresh (SET quarter)) (PUT 1 close)) (PUT 2 low)) (OPEN 1)) (OPEN 2)
+
+five-then : {acts : List Act} {d : Book} → Makes twoOpened acts d → Makes fresh (SET quarter ∷ PUT 1 close ∷ PUT 2 low ∷ OPEN 1 ∷ OPEN 2 ∷ acts) d
+five-then m =
+    then accepted quarter-set refl
+    (then accepted (passed close-record) refl (then accepted low-put refl (then (opened 28) close-opens refl (then (opened 28) low-opens refl m))))
+
+two-left : two ≡ twoOpened
+two-left = makes (five-then ended)
+
+three-left : three ≡ changed (changed twoOpened (PUT 32 close)) (OPEN 32)
+three-left = makes (five-then (then accepted (passed close-record) refl (then (opened 28) close-opens refl ended)))
+
+closed-left : oneClosed ≡ changed twoOpened (CLOSE 1)
+closed-left = makes (five-then (then accepted refl refl ended))
+
+-- tariffs in places 1, 2 and 32
+abbrev placesWith : Place → Place → Place → List Place
+placesWith p q r = set (set (set (replicate 32 empty) 0 p) 1 q) 31 r
+
+-- a trial on a book with such places, by what becomes of each under the sheet
+told-by : (b : Book) (s : Sheet) → setCheck (s .fields) (s .period) ≡ Pass → (p q r p' q' r' : Place) (codes : ℕ) → b .places ≡ placesWith p q r
+    → under (figuresOf s) p ≡ p' → under (figuresOf s) q ≡ q' → under (figuresOf s) r ≡ r' → codesWhere (fellFrom (placesWith p q r) (placesWith p' q' r')) ≡ codes
+    → trialOf b s ≡ falling codes
+told-by b s e p q r p' q' r' codes h i j k n =
+    trial-told b s e (placesWith p' q' r') (sym (ap (map (under (figuresOf s))) h ∙ λ t. placesWith (i t) (j t) (k t)))
+    ∙ ap (λ ps. falling (codesWhere (fellFrom ps (placesWith p' q' r')))) h
+    ∙ ap falling n
+
+-- each of the two under October's sheet and under that of the quarter
+judged : (s : Sheet) (x : Tariff) (v : Verdict) → verdict (figuresOf s) x ≡ v → under (figuresOf s) (placeWith Open x) ≡ placeWith (openIf (isOpening v)) x
+judged s x v e = ap (λ t. placeWith (openIf t) x) (complying (figuresOf s) x ∙ ap isOpening e)
+
+-- the sheets that SET refuses
+abbrev RefusedBy : Sheet → ℕ → Type 0
+RefusedBy s n = setCheck (s .fields) (s .period) ≡ Refuse n
+
+refused-sheets : RefusedBy noFields 1 × RefusedBy (withField 94 0) 2 × RefusedBy bothWrong 2 × RefusedBy (forPeriod 2023 13 1) 3
+    × RefusedBy (withField 20 100000000) 4 × RefusedBy unordered 5
+unfolding setCheck fieldsInRange fieldInRange rangeOf every sum termsFit fourFit paacFits ordered periodInRange figures figure tabulate tabulateFrom benchmark wc pc oc nc paenc headroom panc indexed round sheetS times loneField lonePair
+refused-sheets = (refl, refl, refl, refl, refl, refl)
+
+-- THE TRIALS
+pub tried : Tried
+unfolding trialOf step setOf
+tried =
+    record {
+      one-falls =
+          told-by two october october-accepted _ _ _ _ _ _ 1 (ap (λ b. b .places) two-left)
+          (judged october (tariffOf close) _ october-close) (judged october (tariffOf low) _ october-low) refl refl;
+      last-place =
+          told-by three october october-accepted _ _ _ _ _ _ 2147483649 (ap (λ b. b .places) three-left)
+          (judged october (tariffOf close) _ october-close) (judged october (tariffOf low) _ october-low)
+          (judged october (tariffOf close) _ october-close) refl;
+      draft-stays =
+          told-by oneClosed october october-accepted _ _ _ _ _ _ 0 (ap (λ b. b .places) closed-left)
+          refl (judged october (tariffOf low) _ october-low) refl refl;
+      same-sheet =
+          told-by two quarter (starred .accepted) _ _ _ _ _ _ 0 (ap (λ b. b .places) two-left)
+          (judged quarter (tariffOf close) _ (starred .just-within)) (judged quarter (tariffOf low) _ (starred .within)) refl refl;
+      no-sheet = rw october-accepted;
+      refused-1 = trial-refused two noFields 1 (refused-sheets .0);
+      refused-2 = (trial-refused two (withField 94 0) 2 (refused-sheets .1), trial-refused two bothWrong 2 (refused-sheets .2));
+      refused-3 = trial-refused two (forPeriod 2023 13 1) 3 (refused-sheets .3);
+      refused-4 = trial-refused two (withField 20 100000000) 4 (refused-sheets .4);
+      refused-5 = trial-refused two unordered 5 (refused-sheets .5);
+    }

@@ -2,6 +2,7 @@
 -- Assumes nothing.
 use mathlib.Core.Path.{_≡_, refl, sym, _∙_, ap, ap₂}
 use mathlib.Core.List.{List, map}
+use mathlib.Core.Option.{Option, some}
 use Prim.Native.Nat.{ℕ}
 use Rattle.refusal.specs.declared.Check.{Check}
 use Rattle.refusal.specs.declared.Check.the-variants.{Pass, Refuse}
@@ -14,9 +15,13 @@ use Rattle.book.specs.Calls as calls
 use Rattle.book.specs.Checks.{figuresOf, answer}
 use Rattle.book.specs.Book.{bookReadings, under, step}
 use Rattle.book.proofs.Steps.{answered-by, made}
-use Rattle.queries.specs.Queries.{refused, falling}
+use Rattle.queries.specs.Queries.{Telling, refused, falling}
 use Rattle.trial.specs.Trial.{falls, codesWhere, toldUnless, trialOf}
 use Rattle.trial.specs.Places.{fellFrom}
+
+-- a refusal is told, whatever else there would be to tell
+told-refused : (o : Option ℕ) (n : ℕ) (t : Telling) → o ≡ some n → toldUnless o t ≡ refused n
+told-refused o n t e = ap (λ q. toldUnless q t) e
 
 module _ (b : Book) (s : Sheet) where
   abbrev checksOf : Check → Answer
@@ -24,9 +29,7 @@ module _ (b : Book) (s : Sheet) where
 
   pub trial-refused : (n : ℕ) → setCheck (s .fields) (s .period) ≡ Refuse n → trialOf b s ≡ refused n
   unfolding trialOf
-  trial-refused n e =
-      ap (λ a. toldUnless (refusalNumber a) (falling (codesWhere (falls b (step b (call (SET s)) .book)))))
-      (answered-by b (call (SET s)) ∙ ap checksOf e)
+  trial-refused n e = told-refused _ n _ (ap refusalNumber (answered-by b (call (SET s)) ∙ ap checksOf e))
 
   pub trial-told : setCheck (s .fields) (s .period) ≡ Pass → (after : List Place) → after ≡ map (under (figuresOf s)) (b .places)
       → trialOf b s ≡ falling (codesWhere (fellFrom (b .places) after))

@@ -3,6 +3,7 @@
 use mathlib.Core.Path.{_≡_, sym, _∙_, ap}
 use Rattle.book.specs.Calls.{sheetAt}
 use Rattle.queries.specs.Queries.{tellingOf, falling}
+use Rattle.queries.specs.Reading.{refusalTold}
 use Rattle.trial.proofs.Trials.{trial-refused, trial-told}
 use borrow.Author.Needs.{needs}
 use Rattle.trial.proofs.trial.Statement.{statement}
@@ -25,8 +26,8 @@ returns c =
     let j = c .before .before .before in
     let st = j .before .before in
     let refuses = c .before .enum-told2 .given .1 in
-    ap tellingOf (c .refused .ensures) ∙ rw refuses
-    (sym (trial-refused (st .args .b) (sheetAt (st .args .fields .now) (st .args .period)) _ (sym (j .judge .ensures .checks) ∙ refuses)))
+    ap tellingOf (c .refused .ensures ∙ ap refusalTold refuses)
+    ∙ sym (trial-refused (st .args .b) (sheetAt (st .args .fields .now) (st .args .period)) _ (sym (j .judge .ensures .checks) ∙ refuses))
 
 fallen-requires : tie.Need-fallen-requires
 fallen-requires c κs = search needs

@@ -11,7 +11,7 @@ use borrow.Author.Tests.{ltb-true, ltb-false, lt-ltb, le-leb}
 use Rattle.laws.proofs.Every.{and-both}
 use Rattle.book.specs.declared.Book.{Book}
 use Rattle.laws.proofs.Never.{never}
-use Rattle.answers.specs.Writing.{answerRoom}
+use Rattle.answers.specs.Answers.{answerRoom}
 use Rattle.protocol.specs.Lines.{between}
 use Rattle.desk.specs.declared.Input.{Input}
 use Rattle.desk.specs.declared.Desk.{Desk}

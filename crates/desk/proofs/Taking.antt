@@ -17,8 +17,9 @@ use Rattle.bytes.specs.Bytes.{indexOf, indexAfter}
 use Rattle.book.specs.declared.Book.{Book}
 use Rattle.book.specs.Book.{Reachable}
 use Rattle.laws.proofs.Never.{never}
-use Rattle.answers.specs.Writing.{Puts, answerRoom}
-use Rattle.answers.proofs.Writing.{puts-behind, puts-none}
+use Rattle.texts.specs.Writing.{Puts}
+use Rattle.texts.proofs.Writing.{puts-behind, puts-none}
+use Rattle.answers.specs.Answers.{answerRoom}
 use Rattle.protocol.specs.Lines.{longestLine, lineAt, between}
 use Rattle.protocol.proofs.Parts.{length-between}
 use Rattle.desk.specs.declared.Input.{Input}

@@ -12,7 +12,8 @@ use lib.ListN.{length, take, set}
 use Rattle.libc.specs.Io.{Moved}
 use Rattle.book.specs.declared.Book.{Book}
 use Rattle.book.specs.Book.{fresh, Reachable}
-use Rattle.answers.specs.Writing.{Puts, answerRoom}
+use Rattle.texts.specs.Writing.{Puts}
+use Rattle.answers.specs.Answers.{answerRoom}
 use Rattle.protocol.specs.Lines.{longestLine, lineAt, between}
 use Rattle.desk.specs.declared.Input.{Input}
 use Rattle.desk.specs.declared.Desk.{Desk}

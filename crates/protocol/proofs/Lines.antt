@@ -15,6 +15,7 @@ use Rattle.book.specs.Book.{Reachable}
 use Rattle.book.specs.Promises.{answerOf, Does}
 use Rattle.book.proofs.Reached.{does-reachable}
 use Rattle.queries.specs.Queries.{Telling}
+use Rattle.texts.specs.Writing.{Puts}
 use Rattle.lines.specs.Words.{withoutReturn}
 use Rattle.request.specs.declared.Step.{Step}
 use Rattle.request.specs.declared.Query.{Query}
@@ -24,8 +25,8 @@ use Rattle.request.specs.declared.Request.{Request}
 use Rattle.request.specs.declared.Request.the-variants.{Nothing, Asks, Unknown, NotANumber, WrongCount}
 use Rattle.request.proofs.Request.{the-type}
 use Rattle.request.specs.Requests.{requestOf, numbersOf, Ready}
-use Rattle.answers.specs.Writing.{Puts}
-use Rattle.answers.specs.Answers.{answerText, toldText, problemText}
+use Rattle.errors.specs.Errors.{problemText}
+use Rattle.answers.specs.Answers.{answerText, toldText}
 use Rattle.protocol.specs.declared.Said.the-variants.{Answer, Do}
 use Rattle.protocol.specs.Lines.{toldOf, stepLine, callLine, problemLine, requestLine, longestLine, longLine, lineAt}
 use Rattle.protocol.specs.Promises.{Answered, Says}

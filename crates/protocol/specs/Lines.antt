@@ -21,7 +21,8 @@ use Rattle.request.specs.declared.Word.the-variants.{Steps, Tells}
 use Rattle.request.specs.declared.Request.{Request}
 use Rattle.request.specs.declared.Request.the-variants.{Nothing, Asks, Unknown, NotANumber, WrongCount}
 use Rattle.request.specs.Requests.{requestOf, numbersOf}
-use Rattle.answers.specs.Answers.{answerText, toldText, tooLong, problemText}
+use Rattle.errors.specs.Errors.{tooLong, problemText}
+use Rattle.answers.specs.Answers.{answerText, toldText}
 
 -- set and trial YEAR MONTH T F0 F1 ..
 abbrev pub periodOf : List ℕ → Period

@@ -7,9 +7,9 @@ use lib.ListN.{length, take}
 use Rattle.book.specs.declared.Book.{Book}
 use Rattle.book.specs.Calls.{call}
 use Rattle.book.specs.Book.{Reachable}
+use Rattle.texts.specs.Writing.{Puts}
 use Rattle.request.specs.declared.Word.the-variants.{Steps}
 use Rattle.request.specs.Requests.{arity, RightCount}
-use Rattle.answers.specs.Writing.{Puts}
 use Rattle.protocol.specs.declared.Said.{Said}
 use Rattle.protocol.specs.declared.Said.the-variants.{Answer, Do}
 use Rattle.protocol.specs.Lines.{stepOf, Response, stepLine}

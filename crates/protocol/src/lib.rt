@@ -11,7 +11,7 @@ ghost use Rattle.book.specs.Promises.{Does};
 ghost use Rattle.queries.specs.Queries.{tellingOf};
 ghost use Rattle.request.specs.Requests.{arity, RightCount, requestOf, numbersOf};
 ghost use Rattle.request.specs.declared.Word.the-variants.{Steps, Tells};
-ghost use Rattle.answers.specs.Writing.{answerRoom};
+ghost use Rattle.answers.specs.Answers.{answerRoom};
 ghost use Rattle.protocol.specs.Lines.{stepOf, toldOf, stepLine, requestLine, between, longestLine, lineAt};
 ghost use Rattle.protocol.specs.Promises.{Answered, Says};
 use book::Book;
@@ -78,7 +78,7 @@ fn say(b: Book, line: &[u8], l: u64, numbers: &mut [u32], out: &mut [u8], at: us
 {
     let asked = request::request_of(line, numbers);
     let Request::Asks(word, n) = asked else {
-        return Said::Answer(answers::put_problem(out, at, l, asked));
+        return Said::Answer(errors::put_problem(out, at, l, asked));
     };
     match word {
         Word::Steps(step) => Said::Do(step, n),
@@ -105,10 +105,10 @@ pub fn say_line(
     ensures { λ r. ⌜ Says r b (lineAt b l cut (between (now (input .entry)) from to)) at (now (out .entry)) (now (out .exit)) (now (numbers .exit)) ⌝ }
 {
     if cut {
-        return Said::Answer(answers::put_too_long(out, at, l));
+        return Said::Answer(errors::put_too_long(out, at, l));
     }
     if 16384 < to - from {
-        return Said::Answer(answers::put_too_long(out, at, l));
+        return Said::Answer(errors::put_too_long(out, at, l));
     }
     let end = lines::without_return(input, from, to);
     say(b, &input[from..end], l, numbers, out, at)

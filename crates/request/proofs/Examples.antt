@@ -2,13 +2,14 @@
 -- Assumes nothing.
 use mathlib.Core.Path.{_≡_, refl}
 use mathlib.Core.List.{[], _∷_}
+use Rattle.texts.specs.Texts.{bytesOf}
 use Rattle.lines.specs.Words.{parts, notEmpty, words}
 use Rattle.lines.specs.Numerals.{digits, valueAfter, value, numbersIn}
 use Rattle.request.specs.declared.Step.the-variants.{Set, Put, Open, Close, Drop}
 use Rattle.request.specs.declared.Query.the-variants.{Benchmark, Maximum, Quote, Trial}
 use Rattle.request.specs.declared.Word.the-variants.{Steps, Tells}
 use Rattle.request.specs.declared.Request.the-variants.{Nothing, Asks, Unknown, NotANumber, WrongCount}
-use Rattle.request.specs.Requests.{bytesOf, same, named, requestOf, numbersOf}
+use Rattle.request.specs.Requests.{same, named, requestOf, numbersOf}
 
 blank : requestOf (bytesOf "   ") ≡ Nothing
 unfolding requestOf words parts notEmpty

@@ -4,10 +4,9 @@ use mathlib.Core.Path.{_≡_}
 use mathlib.Core.Bool.{Bool, true, false, cond, _&&_}
 use mathlib.Core.List.{List, [], _∷_, map}
 use Prim.Native.Nat.{ℕ, _+_, _≤_}
-use Prim.Native.Char.{code}
-use Prim.Native.String.{String, [] as []ᵗ, _∷_ as _∷ᵗ_}
 use lib.Dec.{leb, eqb}
 use lib.ListN.{length, getD, take}
+use Rattle.texts.specs.Texts.{bytesOf}
 use Rattle.lines.specs.declared.Numbers.{Numbers}
 use Rattle.lines.specs.declared.Numbers.the-variants.{All, Bad}
 use Rattle.lines.specs.Words.{words}
@@ -23,11 +22,6 @@ use Rattle.request.specs.declared.Named.{Named}
 use Rattle.request.specs.declared.Named.the-variants.{By, None}
 use Rattle.request.specs.declared.Request.{Request}
 use Rattle.request.specs.declared.Request.the-variants.{Nothing, Asks, Unknown, NotANumber, WrongCount}
-
--- the bytes of a text
-abbrev pub bytesOf : String → List ℕ
-bytesOf []ᵗ = []
-bytesOf (c ∷ᵗ s) = code c ∷ bytesOf s
 
 -- the nine calls: five steps of the book, and four that it tells of
 abbrev pub calls : List Word

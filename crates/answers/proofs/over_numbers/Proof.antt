@@ -9,7 +9,7 @@ use lib.ListN.{length, getD, set, take}
 use lib.Seq.{sets, take-all}
 use borrow.Kind.Array.{eInt, good-length}
 use borrow.Author.Needs.{needs}
-use Rattle.answers.proofs.Writing.{copy-more, sets-end}
+use Rattle.texts.proofs.Writing.{copy-more, sets-end}
 use Rattle.answers.proofs.over_numbers.Statement.{statement}
 use Rattle.answers.proofs.over_numbers.Tie as tie
 

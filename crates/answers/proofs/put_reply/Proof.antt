@@ -3,7 +3,7 @@
 use mathlib.Core.Path.{refl}
 use native.Mathlib.Omega.{arith}
 use borrow.Author.Needs.{needs}
-use Rattle.answers.specs.Answers.{answerLine, spaced}
+use Rattle.texts.specs.Texts.{spaced, lineOf}
 use Rattle.answers.proofs.put_reply.Statement.{statement}
 use Rattle.answers.proofs.put_reply.Tie as tie
 
@@ -41,7 +41,7 @@ same-length : tie.Need-same-length
 same-length c = c .before .before .put-text .kept .0
 
 returns : tie.Need-returns
-unfolding answerLine spaced
+unfolding lineOf spaced
 returns c = rw (c .before .before .before .before .before .enum-told .given .1) (c .before .before .put-text .ensures)
 
 same-length-2 : tie.Need-same-length-2

@@ -7,7 +7,7 @@ use native.Mathlib.Omega.{arith}
 use lib.Dec.{leb, ltb}
 use borrow.Author.Tests.{ltb-true, ltb-false, lt-ltb, le-ltb, le-leb, lt-leb}
 use Rattle.laws.proofs.Answers.{goes, stays}
-use Rattle.answers.specs.Writing.{answerRoom}
+use Rattle.answers.specs.Answers.{answerRoom}
 use Rattle.desk.proofs.room.Statement.{statement}
 use Rattle.desk.proofs.room.Tie as tie
 

@@ -8,8 +8,8 @@ use native.Mathlib.Omega.{arith}
 use lib.ListN.{length}
 use lib.Seq.{length-take-le}
 use borrow.Author.Tests.{ltb-true}
-use Rattle.answers.specs.Writing.{answerRoom}
-use Rattle.answers.proofs.Writing.{puts-size}
+use Rattle.texts.proofs.Writing.{puts-size}
+use Rattle.answers.specs.Answers.{answerRoom}
 use Rattle.protocol.specs.declared.Said.the-variants.{Do}
 use Rattle.protocol.specs.Lines.{Response, lineAt, between}
 use Rattle.protocol.specs.Promises.{Answered, Says}

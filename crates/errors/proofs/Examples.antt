@@ -1,0 +1,29 @@
+-- Errors with their texts.
+-- Assumes nothing.
+use mathlib.Core.Path.{_≡_, refl}
+use Rattle.texts.specs.Texts.{bytesOf, digitsWithin, decimal}
+use Rattle.request.specs.declared.Step.the-variants.{Set, Put, Open}
+use Rattle.request.specs.declared.Query.the-variants.{Benchmark}
+use Rattle.request.specs.declared.Word.the-variants.{Steps, Tells}
+use Rattle.request.specs.declared.Request.the-variants.{NotANumber, WrongCount}
+use Rattle.errors.specs.Errors.{problemText}
+
+set : problemText 12 (WrongCount (Steps Set)) ≡ bytesOf "error line 12: set takes at least 3 numbers\n"
+unfolding decimal digitsWithin
+set = refl
+
+put : problemText 12 (WrongCount (Steps Put)) ≡ bytesOf "error line 12: put takes at least 1 number\n"
+unfolding decimal digitsWithin
+put = refl
+
+one : problemText 12 (WrongCount (Steps Open)) ≡ bytesOf "error line 12: open takes 1 number\n"
+unfolding decimal digitsWithin
+one = refl
+
+four : problemText 12 (WrongCount (Tells Benchmark)) ≡ bytesOf "error line 12: benchmark takes 4 numbers\n"
+unfolding decimal digitsWithin
+four = refl
+
+no-number : problemText 12 (NotANumber 2) ≡ bytesOf "error line 12: word 2 is not a number from 0 to 4294967295\n"
+unfolding decimal digitsWithin
+no-number = refl

@@ -1,0 +1,50 @@
+-- `errors::put_arity` meets its contract.
+-- Assumes nothing.
+use borrow.Author.Needs.{needs}
+use Rattle.errors.proofs.put_arity.Statement.{statement}
+use Rattle.errors.proofs.put_arity.Tie as tie
+
+enum-known-arity : tie.Need-enum-known-arity
+enum-known-arity c = search needs
+
+slice-aggregate-put-count : tie.Need-slice-aggregate-put-count
+slice-aggregate-put-count c = search needs
+
+put-count-requires : tie.Need-put-count-requires
+put-count-requires c κs = search needs
+
+enum-known-arity-2 : tie.Need-enum-known-arity-2
+enum-known-arity-2 c = search needs
+
+slice-aggregate-put-count-2 : tie.Need-slice-aggregate-put-count-2
+slice-aggregate-put-count-2 c = search needs
+
+put-count-requires-2 : tie.Need-put-count-requires-2
+put-count-requires-2 c κs = search needs
+
+same-length : tie.Need-same-length
+same-length c = search needs
+
+returns : tie.Need-returns
+returns c = rw (c .before .before .before .before .before .before .arity .given .1) (c .before .before .put-count .ensures)
+
+same-length-2 : tie.Need-same-length-2
+same-length-2 c = search needs
+
+returns-2 : tie.Need-returns-2
+returns-2 c = rw (c .before .before .before .before .before .before .arity2 .given .1) (c .before .before .put-count2 .ensures)
+
+pub put-arity-spec : {M : Type 1} → statement M
+put-arity-spec =
+    tie.close
+    (tie.spec
+    enum-known-arity
+    slice-aggregate-put-count
+    put-count-requires
+    enum-known-arity-2
+    slice-aggregate-put-count-2
+    put-count-requires-2
+    same-length
+    returns
+    same-length-2
+    returns-2)

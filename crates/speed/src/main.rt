@@ -1,6 +1,7 @@
 // The calls of the book, timed: `speed MEASUREMENT CALLS` makes that many calls from a fixed generator and prints the checksum of
 // their answers. 0: SET with 32 open tariffs. 1: OPEN of 28 cells and 4 tiers, with the CLOSE that frees it. 2: OPEN that is over
-// the cap in the last cell. 3: QUOTE of 12 months. 4: BENCHMARK. Any other number: each of the five in turn.
+// the cap in the last cell. 3: QUOTE of 12 months. 4: BENCHMARK. 5: TRIAL with 32 open tariffs. Any other number: each of the six
+// in turn.
 // Promise: each run is safe and ends, and every book that is handed to a call is one that some list of calls leaves.
 // tests/speed has the twin of this program on another implementation, and the runner that times both.
 ghost use mathlib.Core.Path.{_≡_};
@@ -157,6 +158,7 @@ fn fold_told(sum: u64, told: Told) -> u64 {
             denominator,
         } => fold(fold(sum, number), denominator),
         Told::Quote { charge, maximum } => fold(fold(sum, charge), maximum),
+        Told::Falling(codes) => fold(sum, 100 + codes as u64),
     }
 }
 
@@ -302,6 +304,30 @@ fn fold_book(b: Book, sum: u64) -> u64
     total
 }
 
+// Draws one of the sheet's network costs anew, and its current DFI; the generator's state is then the one returned.
+fn redraw(sheet: &mut [u32; 95], base: &[u32; 95], x: u64) -> u64
+    requires { ⌜ length (now sheet) ≡ 95 ⌝ }
+    ensures { λ r. ⌜ length (now (sheet .exit)) ≡ 95 ⌝ }
+{
+    let first = next(x);
+    let at = 37 + drawn(first, 56) as usize;
+    let second = next(first);
+    let more = drawn(second, 65_536);
+    sheet[at] = std::num::wrapping_add_u32(base[at], more);
+    sheet[29] = 1_100 + more % 16;
+    second
+}
+
+// The period of the sheet that the state was drawn with.
+fn drawn_period(x: u64) -> Period {
+    let more = drawn(x, 65_536);
+    Period {
+        year: 2018 + more % 80,
+        month: 1 + more % 12,
+        months: 12,
+    }
+}
+
 fn sets(n: u64) -> u64 {
     let base = SHEET;
     let mut sheet = SHEET;
@@ -310,18 +336,8 @@ fn sets(n: u64) -> u64 {
     let mut sum: u64 = 0;
     let mut i: u64 = 0;
     while i < n {
-        x = next(x);
-        let at = 37 + drawn(x, 56) as usize;
-        x = next(x);
-        let more = drawn(x, 65_536);
-        sheet[at] = std::num::wrapping_add_u32(base[at], more);
-        sheet[29] = 1_100 + more % 16;
-        let period = Period {
-            year: 2018 + more % 80,
-            month: 1 + more % 12,
-            months: 12,
-        };
-        let did = setting::set(b, &sheet, period);
+        x = redraw(&mut sheet, &base, x);
+        let did = setting::set(b, &sheet, drawn_period(x));
         let reply = did.reply;
         let after = did.book;
         b = after;
@@ -406,6 +422,22 @@ fn benchmarks(n: u64) -> u64 {
     sum
 }
 
+fn trials(n: u64) -> u64 {
+    let base = SHEET;
+    let mut sheet = SHEET;
+    let b = with_open();
+    let mut x: u64 = 1;
+    let mut sum: u64 = 0;
+    let mut i: u64 = 0;
+    while i < n {
+        x = redraw(&mut sheet, &base, x);
+        let told = trial::trial(b, &sheet, drawn_period(x));
+        sum = fold_told(sum, told);
+        i += 1;
+    }
+    sum
+}
+
 // The checksum of one measurement.
 fn measured(measurement: u64, calls: u64) -> u64 {
     match measurement {
@@ -413,7 +445,8 @@ fn measured(measurement: u64, calls: u64) -> u64 {
         1 => opens(calls),
         2 => overs(calls),
         3 => quotes(calls),
-        _ => benchmarks(calls),
+        4 => benchmarks(calls),
+        _ => trials(calls),
     }
 }
 
@@ -455,11 +488,11 @@ fn argument(i: usize) -> u64 {
 fn main() {
     let measurement = argument(1);
     let calls = argument(2);
-    if measurement < 5 {
+    if measurement < 6 {
         print(measured(measurement, calls));
         return;
     }
-    for each in 0..5 {
+    for each in 0..6 {
         print(measured(each, calls));
     }
 }

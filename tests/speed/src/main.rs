@@ -2,7 +2,7 @@
 //!
 //!     speed MEASUREMENT CALLS
 //!
-//! makes that many calls of one kind and prints the checksum of their answers; with a measurement above 4, of all five in turn.
+//! makes that many calls of one kind and prints the checksum of their answers; with a measurement above 5, of all six in turn.
 //! It also sees to it that the calls are what the measurement's name says, outside of what is timed.
 
 use second::{Book, NotOpened, Refusal, State};
@@ -84,6 +84,13 @@ impl Sum {
                 self.fold(breach.months()[0].into());
                 self.fold(breach.months()[11].into());
             }
+        }
+    }
+
+    fn fold_trial(&mut self, answer: Result<u32, Refusal>) {
+        match answer {
+            Ok(codes) => self.fold(100 + u64::from(codes)),
+            Err(refusal) => self.fold(refusal.number().into()),
         }
     }
 
@@ -201,19 +208,25 @@ fn open_in(book: &Book) -> usize {
         .count()
 }
 
+/// Draws one of the sheet's network costs anew, and its current DFI; the year and the month of the sheet's period.
+fn redraw(sheet: &mut [u32; 95], x: &mut Generator) -> (u32, u32) {
+    x.next();
+    let at = 37 + x.below(56) as usize;
+    x.next();
+    let more = x.below(65_536);
+    sheet[at] = SHEET[at] + more;
+    sheet[29] = 1_100 + more % 16;
+    (2018 + more % 80, 1 + more % 12)
+}
+
 fn sets(n: u64) -> u64 {
     let mut book = with_open();
     let mut sheet = SHEET;
     let mut x = Generator(1);
     let mut sum = Sum(0);
     for _ in 0..n {
-        x.next();
-        let at = x.below(56) as usize;
-        x.next();
-        let more = x.below(65_536);
-        sheet[37 + at] = SHEET[37 + at] + more;
-        sheet[29] = 1_100 + more % 16;
-        sum.fold_done(book.set(2018 + more % 80, 1 + more % 12, 12, &sheet));
+        let (year, month) = redraw(&mut sheet, &mut x);
+        sum.fold_done(book.set(year, month, 12, &sheet));
     }
     assert_eq!(open_in(&book), 32);
     for k in 0..32 {
@@ -291,6 +304,25 @@ fn benchmarks(n: u64) -> u64 {
     sum.0
 }
 
+fn trials(n: u64) -> u64 {
+    let book = with_open();
+    let mut sheet = SHEET;
+    let mut x = Generator(1);
+    // That no later sheet sends a tariff back either, `sets` sees: it goes by the same sheets.
+    for _ in 0..1_000 {
+        let (year, month) = redraw(&mut sheet, &mut x);
+        assert_eq!(book.trial(year, month, 12, &sheet), Ok(0));
+    }
+    let mut sheet = SHEET;
+    let mut x = Generator(1);
+    let mut sum = Sum(0);
+    for _ in 0..n {
+        let (year, month) = redraw(&mut sheet, &mut x);
+        sum.fold_trial(book.trial(year, month, 12, &sheet));
+    }
+    sum.0
+}
+
 /// The checksum of one measurement.
 fn measured(measurement: u64, calls: u64) -> u64 {
     match measurement {
@@ -298,7 +330,8 @@ fn measured(measurement: u64, calls: u64) -> u64 {
         1 => opens(calls),
         2 => overs(calls),
         3 => quotes(calls),
-        _ => benchmarks(calls),
+        4 => benchmarks(calls),
+        _ => trials(calls),
     }
 }
 
@@ -311,11 +344,11 @@ fn main() {
         eprintln!("usage: speed MEASUREMENT CALLS");
         std::process::exit(2);
     };
-    if measurement < 5 {
+    if measurement < 6 {
         println!("{}", measured(measurement, calls));
         return;
     }
-    for each in 0..5 {
+    for each in 0..6 {
         println!("{}", measured(each, calls));
     }
 }

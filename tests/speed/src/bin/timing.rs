@@ -5,6 +5,7 @@
 //! OURS is the folder with the proved programs `speed` and `desk`, THEIRS the one with the Rust programs `speed`, `desk` and
 //! `generate`. Each pair is run in turn, several times, and the least processor time of each counts: what else the machine does
 //! disturbs that less than the time on the clock. From the time of a run with calls the time of one with none is taken off.
+//! Our TRIAL is timed against our own SET in the same way, since it judges the same tariffs by the same sheet.
 //! It fails on answers that differ and on a ratio above its bar.
 
 use std::fs::File;
@@ -16,6 +17,7 @@ const TEXT_ROUNDS: usize = 40;
 const SCRIPT_SEED: u32 = 1;
 const SCRIPT_LINES: u32 = 100_000;
 const TEXT_BAR: f64 = 1.5;
+const TRIAL_BAR: f64 = 1.1;
 
 struct Measurement {
     name: &'static str,
@@ -23,8 +25,11 @@ struct Measurement {
     bar: Option<f64>,
 }
 
+const SET: usize = 0;
+const TRIAL: usize = 5;
+
 /// By the number that the programs know them by.
-const MEASUREMENTS: [Measurement; 5] = [
+const MEASUREMENTS: [Measurement; 6] = [
     Measurement {
         name: "SET, 32 open tariffs",
         calls: 150_000,
@@ -49,6 +54,11 @@ const MEASUREMENTS: [Measurement; 5] = [
         name: "BENCHMARK",
         calls: 80_000_000,
         bar: None,
+    },
+    Measurement {
+        name: "TRIAL, 32 open tariffs",
+        calls: 150_000,
+        bar: Some(2.0),
     },
 ];
 
@@ -117,15 +127,13 @@ fn text_of(program: &Path, script: &Path) -> Result<(Vec<u8>, f64), String> {
     Ok((answers, time.user + time.system))
 }
 
-/// Nanoseconds a call of both programs; whether they agree and the bar is kept.
-fn compare(ours: &Path, theirs: &Path, number: usize) -> Result<bool, String> {
-    let Measurement { name, calls, bar } = MEASUREMENTS[number];
-    let programs = [ours, theirs];
+/// Nanoseconds a call and the checksums of two programs, each in a measurement, that are run in turn.
+fn in_turn(pair: [(&Path, usize); 2], calls: u64) -> Result<([f64; 2], [String; 2]), String> {
     let mut least = [f64::INFINITY; 2];
     let mut start = [f64::INFINITY; 2];
     let mut sums = [String::new(), String::new()];
     for _ in 0..ROUNDS {
-        for (i, program) in programs.iter().enumerate() {
+        for (i, (program, number)) in pair.into_iter().enumerate() {
             start[i] = start[i].min(sum_of(program, number, 0)?.1);
             let (sum, time) = sum_of(program, number, calls)?;
             least[i] = least[i].min(time);
@@ -133,6 +141,13 @@ fn compare(ours: &Path, theirs: &Path, number: usize) -> Result<bool, String> {
         }
     }
     let nanoseconds = [0, 1].map(|i| (least[i] - start[i]) * 1e9 / calls as f64);
+    Ok((nanoseconds, sums))
+}
+
+/// Nanoseconds a call of both programs; whether they agree and the bar is kept.
+fn compare(ours: &Path, theirs: &Path, number: usize) -> Result<bool, String> {
+    let Measurement { name, calls, bar } = MEASUREMENTS[number];
+    let (nanoseconds, sums) = in_turn([(ours, number), (theirs, number)], calls)?;
     let ratio = nanoseconds[0] / nanoseconds[1];
     let agree = sums[0] == sums[1];
     let kept = bar.is_none_or(|bar| ratio <= bar);
@@ -151,6 +166,21 @@ fn compare(ours: &Path, theirs: &Path, number: usize) -> Result<bool, String> {
         println!("  above the bar");
     }
     Ok(agree && kept)
+}
+
+/// Our TRIAL beside our SET; whether the bar is kept.
+fn compare_trial(ours: &Path) -> Result<bool, String> {
+    let (nanoseconds, _) = in_turn([(ours, TRIAL), (ours, SET)], MEASUREMENTS[TRIAL].calls)?;
+    let ratio = nanoseconds[0] / nanoseconds[1];
+    println!(
+        "\nOur TRIAL takes {ratio:.2} times our SET: {:.1} and {:.1} nanoseconds a call, bar {TRIAL_BAR:.1}.",
+        nanoseconds[0], nanoseconds[1],
+    );
+    let kept = ratio <= TRIAL_BAR;
+    if !kept {
+        println!("  above the bar");
+    }
+    Ok(kept)
 }
 
 /// Calls a second of both text programs; whether they agree and the bar is kept.
@@ -204,6 +234,7 @@ fn timed(ours: &Path, theirs: &Path) -> Result<bool, String> {
     for number in 0..MEASUREMENTS.len() {
         well &= compare(&ours.join("speed"), &theirs.join("speed"), number)?;
     }
+    well &= compare_trial(&ours.join("speed"))?;
     well &= compare_text(
         &ours.join("desk"),
         &theirs.join("desk"),

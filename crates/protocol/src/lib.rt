@@ -12,7 +12,7 @@ ghost use Rattle.queries.specs.Queries.{tellingOf};
 ghost use Rattle.request.specs.Requests.{arity, RightCount, requestOf, numbersOf};
 ghost use Rattle.request.specs.declared.Word.the-variants.{Steps, Tells};
 ghost use Rattle.answers.specs.Answers.{answerRoom};
-ghost use Rattle.protocol.specs.Lines.{stepOf, toldOf, stepLine, requestLine, between, longestLine, lineAt};
+ghost use Rattle.protocol.specs.Lines.{periodOf, stepOf, toldOf, stepLine, requestLine, between, longestLine, lineAt};
 ghost use Rattle.protocol.specs.Promises.{Answered, Says};
 use book::Book;
 use book::Done;
@@ -24,6 +24,18 @@ use request::Request;
 use request::Step;
 use request::Word;
 
+// The period of a sheet that is set or tried: year, month and t.
+fn period_of(numbers: &[u32]) -> Period
+    requires { ⌜ 3 ≤ length (now numbers) ⌝ }
+    ensures { λ r. ⌜ r ≡ periodOf (now (numbers .entry)) ⌝ }
+{
+    Period {
+        year: numbers[0],
+        month: numbers[1],
+        months: numbers[2],
+    }
+}
+
 // A step with its numbers.
 fn stepped(b: Book, step: Step, numbers: &[u32]) -> Done
     requires { ⌜ Reachable b × RightCount (arity (Steps step)) (length (now numbers)) ⌝ }
@@ -31,11 +43,7 @@ fn stepped(b: Book, step: Step, numbers: &[u32]) -> Done
 {
     match step {
         Step::Set => {
-            let period = Period {
-                year: numbers[0],
-                month: numbers[1],
-                months: numbers[2],
-            };
+            let period = period_of(numbers);
             setting::set(b, &numbers[3..], period)
         }
         Step::Put => codes::put(b, numbers[0], &numbers[1..]),
@@ -55,11 +63,7 @@ fn told(b: Book, query: Query, numbers: &[u32]) -> Told
         Query::Maximum => queries::maximum(b, numbers[0], numbers[1], numbers[2], numbers[3]),
         Query::Quote => queries::quote(b, numbers[0], numbers[1], numbers[2], &numbers[3..]),
         Query::Trial => {
-            let period = Period {
-                year: numbers[0],
-                month: numbers[1],
-                months: numbers[2],
-            };
+            let period = period_of(numbers);
             trial::trial(b, &numbers[3..], period)
         }
     }

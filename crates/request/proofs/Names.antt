@@ -3,24 +3,21 @@
 use mathlib.Core.Path.{_≡_, refl, sym, _∙_, ap}
 use mathlib.Core.Bool.{Bool, true, false, cond}
 use mathlib.Core.List.{List, [], _∷_}
-use Prim.Native.Nat.{ℕ, suc, _+_, _<_, _≤_}
-use native.Mathlib.Numerals.{add-one}
+use Prim.Native.Nat.{ℕ}
 use native.Mathlib.Omega.{arith}
 use lib.Dec.{eqb}
-use lib.ListN.{length, getD, drop, drop-of-length-le}
-use lib.Seq.{drop-cons}
-use borrow.Author.Tests.{eq-eqb, eqb-true}
+use lib.ListN.{length, getD}
+use borrow.Author.Tests.{eqb-true}
 use Rattle.laws.proofs.Every.{and-left, and-right}
+use Rattle.request.specs.declared.Step.the-variants.{Set, Put, Open, Close, Drop}
+use Rattle.request.specs.declared.Query.the-variants.{Benchmark, Maximum, Quote, Trial}
 use Rattle.request.specs.declared.Word.{Word}
+use Rattle.request.specs.declared.Word.the-variants.{Steps, Tells}
+use Rattle.request.specs.declared.Named.{Named}
 use Rattle.request.specs.declared.Named.the-variants.{By, None}
-use Rattle.request.specs.Requests.{nameOf, same, named}
+use Rattle.request.specs.Requests.{calls, nameOf, same, named}
 
--- two lists are the same where the test says so, and only there
-same-self : (xs : List ℕ) → same xs xs ≡ true
-unfolding same
-same-self [] = refl
-same-self (x ∷ xs) = rw (eq-eqb x x refl, same-self xs)
-
+-- lists of which the test says that they are the same
 equal : (xs ys : List ℕ) → same xs ys ≡ true → xs ≡ ys
 unfolding same
 equal [] [] e = refl
@@ -30,24 +27,78 @@ equal (x ∷ xs) (y ∷ ys) e =
     let p : x ≡ y = eqb-true x y (and-left (eqb x y) (same xs ys) e) in
     let q : xs ≡ ys = equal xs ys (and-right (eqb x y) (same xs ys) e) in cc
 
--- a test that is true exactly where two lists are equal is that test
-tested : (xs ys : List ℕ) (t : Bool) → (t ≡ true → xs ≡ ys) × (xs ≡ ys → t ≡ true) → same xs ys ≡ t
-tested xs ys true h = rw (h .0 refl) (same-self ys)
-tested xs ys false h = go (same xs ys) refl
+-- each call is named by its own name
+named-by : (c : Word) → named calls (nameOf c) ≡ By c
+unfolding named same
+named-by (Steps Set) = refl
+named-by (Steps Put) = refl
+named-by (Steps Open) = refl
+named-by (Steps Close) = refl
+named-by (Steps Drop) = refl
+named-by (Tells Benchmark) = refl
+named-by (Tells Maximum) = refl
+named-by (Tells Quote) = refl
+named-by (Tells Trial) = refl
+
+-- and by nothing else
+skip : (w : List ℕ) (c : Word) (rest : Named) → (w ≡ nameOf c → ⊥) → cond (same w (nameOf c)) (By c) rest ≡ rest
+skip w c rest h = go (same w (nameOf c)) refl
   where
-    go : (t : Bool) → same xs ys ≡ t → same xs ys ≡ false
-    go false e = e
-    go true e = absurd (let q : false ≡ true = h .1 (equal xs ys e) in let z : _≡_ {A = ℕ} 0 1 = cc in omega arith)
+    go : (t : Bool) → same w (nameOf c) ≡ t → cond t (By c) rest ≡ rest
+    go true e = absurd (h (equal w (nameOf c) e))
+    go false e = refl
 
--- of the calls from place i on, the first is tried, and then those behind it
-pub tried : (cs : List Word) (i : ℕ) (d : Word) (w name : List ℕ) (t : Bool) → i < length cs → name ≡ nameOf (getD cs i d)
-    → (t ≡ true → w ≡ name) × (w ≡ name → t ≡ true) → named (drop i cs) w ≡ cond t (By (getD cs i d)) (named (drop (i + 1) cs) w)
+none-named : (cs : List Word) (w : List ℕ) → ((c : Word) → w ≡ nameOf c → ⊥) → named cs w ≡ None
 unfolding named
-tried cs i d w name t h e test =
-    ap (λ xs. named xs w) (drop-cons cs i d h)
-    ∙ ap (λ x. cond x (By (getD cs i d)) (named (drop (suc i) cs) w)) (ap (same w) (sym e) ∙ tested w name t test)
-    ∙ ap (λ k. cond t (By (getD cs i d)) (named (drop k cs) w)) (sym (add-one i))
+none-named [] w h = refl
+none-named (c ∷ cs) w h = skip w c (named cs w) (h c) ∙ none-named cs w h
 
-pub all-tried : (cs : List Word) (i : ℕ) (w : List ℕ) → length cs ≤ i → named (drop i cs) w ≡ None
-unfolding named
-all-tried cs i w h = rw (drop-of-length-le cs {i = i} h)
+-- the calls' names begin with nine bytes
+abbrev callBy : ℕ → Word
+callBy n =
+    cond (eqb n 98) (Tells Benchmark)
+    (cond (eqb n 99) (Steps Close)
+    (cond (eqb n 100) (Steps Drop)
+    (cond (eqb n 109) (Tells Maximum)
+    (cond (eqb n 111) (Steps Open) (cond (eqb n 112) (Steps Put) (cond (eqb n 113) (Tells Quote) (cond (eqb n 115) (Steps Set) (Tells Trial))))))))
+
+by-first : (c : Word) → c ≡ callBy (getD (nameOf c) 0 0)
+by-first (Steps Set) = refl
+by-first (Steps Put) = refl
+by-first (Steps Open) = refl
+by-first (Steps Close) = refl
+by-first (Steps Drop) = refl
+by-first (Tells Benchmark) = refl
+by-first (Tells Maximum) = refl
+by-first (Tells Quote) = refl
+by-first (Tells Trial) = refl
+
+pub first-alone : (c d : Word) → getD (nameOf c) 0 0 ≡ getD (nameOf d) 0 0 → c ≡ d
+first-alone c d e = by-first c ∙ ap callBy e ∙ sym (by-first d)
+
+-- a byte that is none of the first eight leaves one call
+pub last-call : (n : ℕ) → (n ≡ 98 → ⊥) → (n ≡ 99 → ⊥) → (n ≡ 100 → ⊥) → (n ≡ 109 → ⊥) → (n ≡ 111 → ⊥) → (n ≡ 112 → ⊥) → (n ≡ 113 → ⊥) → (n ≡ 115 → ⊥)
+    → (c : Word) → getD (nameOf c) 0 0 ≡ n → c ≡ Tells Trial
+last-call n b k d m o p q s (Steps Set) e = absurd (s (sym e))
+last-call n b k d m o p q s (Steps Put) e = absurd (p (sym e))
+last-call n b k d m o p q s (Steps Open) e = absurd (o (sym e))
+last-call n b k d m o p q s (Steps Close) e = absurd (k (sym e))
+last-call n b k d m o p q s (Steps Drop) e = absurd (d (sym e))
+last-call n b k d m o p q s (Tells Benchmark) e = absurd (b (sym e))
+last-call n b k d m o p q s (Tells Maximum) e = absurd (m (sym e))
+last-call n b k d m o p q s (Tells Quote) e = absurd (q (sym e))
+last-call n b k d m o p q s (Tells Trial) e = refl
+
+-- what a word names: nothing where it has no byte; else the one call whose name begins as it does, where that name is the word
+pub names-nothing : (w : List ℕ) → length w ≡ 0 → None ≡ named calls w
+unfolding named same
+names-nothing [] e = refl
+names-nothing (x ∷ w) e = absurd (omega arith)
+
+module _ (w name : List ℕ) (g : Word) (its : name ≡ nameOf g) where
+  pub names-it : w ≡ name → By g ≡ named calls w
+  names-it e = sym (ap (named calls) (e ∙ its) ∙ named-by g)
+
+  pub names-none : ((c : Word) → getD (nameOf c) 0 0 ≡ getD w 0 0 → c ≡ g) → (w ≡ name → ⊥) → None ≡ named calls w
+  names-none only other =
+      sym (none-named calls w (λ c e. other (e ∙ ap nameOf (only c (ap (λ xs. getD xs 0 0) (sym e))) ∙ sym its)))

@@ -1,10 +1,11 @@
 // Which call a line asks for: one of the nine with its numbers, or why the line is no call.
 // Promise: `request_of` answers what specs/Requests.antt, the desk's protocol, says of every line of bytes, and leaves a call's numbers in
 // order. `Standing` is what the layer above may use of a call: the count is right for it, and its numbers stand there. A call is its
-// case here, its name and arity in `form_of`, and its place in `all_calls`; all that reads or writes it goes by these.
+// case here, its name and arity in `form_of`, and the first byte of its name in `beginning`; all that reads or writes it goes by these.
 ghost use mathlib.Core.Path.{_≡_};
 ghost use Prim.Native.Nat.{_≤_};
-ghost use lib.ListN.{length, take};
+ghost use lib.ListN.{length, getD, take};
+ghost use Rattle.request.specs.declared.Word.{Word};
 ghost use Rattle.request.specs.Requests.{calls, nameOf, arity, rightCount, FormOf, named, requestOf, Standing};
 use lines::Numbers;
 
@@ -30,9 +31,6 @@ pub enum Word {
     Steps(Step),
     Tells(Query),
 }
-
-// How many calls there are.
-const CALLS: usize = 9;
 
 // How many numbers a call takes.
 pub enum Arity {
@@ -93,36 +91,36 @@ pub fn form_of(word: Word) -> Form
     }
 }
 
-fn all_calls() -> [Word; CALLS]
-    ensures { λ r. ⌜ r ≡ calls ⌝ }
+// The call whose name begins with a byte, of which there is one at most; where there is none, any call.
+fn beginning(first: u8) -> Word
+    ensures { λ r. ⌜ ((c : Word) → getD (nameOf c) 0 0 ≡ first → c ≡ r) ⌝ }
 {
-    [
-        Word::Steps(Step::Set),
-        Word::Steps(Step::Put),
-        Word::Steps(Step::Open),
-        Word::Steps(Step::Close),
-        Word::Steps(Step::Drop),
-        Word::Tells(Query::Benchmark),
-        Word::Tells(Query::Maximum),
-        Word::Tells(Query::Quote),
-        Word::Tells(Query::Trial),
-    ]
+    match first {
+        b'b' => Word::Tells(Query::Benchmark),
+        b'c' => Word::Steps(Step::Close),
+        b'd' => Word::Steps(Step::Drop),
+        b'm' => Word::Tells(Query::Maximum),
+        b'o' => Word::Steps(Step::Open),
+        b'p' => Word::Steps(Step::Put),
+        b'q' => Word::Tells(Query::Quote),
+        b's' => Word::Steps(Step::Set),
+        _ => Word::Tells(Query::Trial),
+    }
 }
 
+// The call that a word names: the one whose name begins as the word does, where that name is the word.
 fn call_named(word: &[u8]) -> Named
     ensures { λ r. ⌜ r ≡ named calls (now (word .entry)) ⌝ }
 {
-    let all = all_calls();
-    let mut i: usize = 0;
-    while i < CALLS {
-        let call = all[i];
-        let form = form_of(call);
-        let name = form.name;
-        let size = form.size;
-        if check::same(word, &name[..size]) {
-            return Named::By(call);
-        }
-        i += 1;
+    if word.len() == 0 {
+        return Named::None;
+    }
+    let call = beginning(word[0]);
+    let form = form_of(call);
+    let name = form.name;
+    let size = form.size;
+    if check::same(word, &name[..size]) {
+        return Named::By(call);
     }
     Named::None
 }

@@ -19,11 +19,16 @@ use Rattle.book.specs.Book.{fresh}
 use Rattle.laws.proofs.Never.{never}
 use Rattle.protocol.specs.Lines.{longestLine, lineAt, between}
 use Rattle.protocol.proofs.Parts.{length-between}
-use Rattle.desk.specs.declared.Input.{Input}
-use Rattle.desk.specs.declared.Desk.{Desk}
-use Rattle.desk.specs.Desk.{hasFeed, Takes, none-taken, line-taken, Holds, Took, Keeps, isLeft, AfterRead, Reads, Fills, off, lines-left, at-end, reads, stopped, afterWrite, Flushes, atStart, Turned, none-yet, turn-more}
+use Rattle.input.specs.declared.Input.{Input}
+use Rattle.input.specs.Input.{Holds, Keeps, isLeft, AfterRead, stopped, afterWrite}
+use Rattle.input.proofs.Between.{between-split, between-one}
+use Rattle.input.proofs.Kept.{or-left, or-right, kept-short, stopped-holds}
+use Rattle.taking.specs.declared.Desk.{Desk}
+use Rattle.taking.specs.Taking.{hasFeed, Takes, none-taken, line-taken, Took}
+use Rattle.taking.proofs.Taking.{feed-append, feed-split, feed-last, takes-none}
+use Rattle.desk.specs.Desk.{Reads, Fills, off, lines-left, at-end, reads, Flushes, atStart, Turned, none-yet, turn-more}
 use Rattle.desk.specs.Whole.{added, addedBy, readIn, answersIn, Dropped, Whole, ReadFailed, WhyLast, write-failed, read-failed, all-done, WhyEnded}
-use Rattle.desk.proofs.Taking.{between-split, between-one, feed-append, feed-split, feed-last, takes-none, or-left, or-right, kept-short, stopped-holds, flushed, reads-within}
+use Rattle.desk.proofs.Turning.{flushed, reads-within}
 
 -- what was dropped has no line feed, and its line is answered as if it were there
 dropped-feed : (cut : Bool) (dropped : List ℕ) → Dropped cut dropped → hasFeed dropped ≡ false

@@ -9,9 +9,11 @@ use lib.ListN.{length}
 use lib.Signed.{ltZ}
 use Rattle.book.specs.Book.{fresh}
 use Rattle.protocol.specs.Lines.{longestLine, between}
-use Rattle.desk.specs.declared.Input.{Input}
-use Rattle.desk.specs.declared.Desk.{Desk}
-use Rattle.desk.specs.Desk.{hasFeed, Takes, isLeft, Fills, off, lines-left, at-end, reads, Turns, Turned, none-yet, turn-more}
+use Rattle.input.specs.declared.Input.{Input}
+use Rattle.input.specs.Input.{isLeft}
+use Rattle.taking.specs.declared.Desk.{Desk}
+use Rattle.taking.specs.Taking.{hasFeed, Takes}
+use Rattle.desk.specs.Desk.{Fills, off, lines-left, at-end, reads, Turns, Turned, none-yet, turn-more}
 
 -- the bytes that a read adds to those that i has, by the system's answer: none where it failed, at the end a line feed if anything is
 -- left, and else those that it put into the buffer

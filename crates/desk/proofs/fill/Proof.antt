@@ -6,8 +6,9 @@ use native.Mathlib.Omega.{arith}
 use lib.ListN.{length}
 use borrow.Author.Tests.{not-true, not-false}
 use borrow.Author.Needs.{needs}
+use Rattle.input.proofs.Kept.{kept-short, stopped-holds}
 use Rattle.desk.specs.Desk.{off, lines-left, at-end, reads}
-use Rattle.desk.proofs.Taking.{kept-short, stopped-holds, reads-within}
+use Rattle.desk.proofs.Turning.{reads-within}
 use Rattle.desk.proofs.fill.Statement.{statement}
 use Rattle.desk.proofs.fill.Tie as tie
 

@@ -7,7 +7,7 @@ use native.Mathlib.Omega.{arith}
 use lib.ListN.{length}
 use Rattle.book.proofs.Reached.{fresh-reachable}
 use Rattle.desk.specs.Desk.{Steady, atStart, Turned, none-yet}
-use Rattle.desk.proofs.Taking.{steady-as, turned-more}
+use Rattle.desk.proofs.Turning.{steady-as, turned-more}
 use Rattle.desk.proofs.run.Statement.{statement}
 use Rattle.desk.proofs.run.Tie as tie
 

@@ -1,7 +1,7 @@
 -- `desk::turn` meets its contract: what is read, and what is taken, leaves a steady desk.
 -- Assumes nothing.
 use borrow.Author.Needs.{needs}
-use Rattle.desk.proofs.Taking.{flushed-holds}
+use Rattle.desk.proofs.Turning.{flushed-holds}
 use Rattle.desk.proofs.turn.Statement.{statement}
 use Rattle.desk.proofs.turn.Tie as tie
 

@@ -1,0 +1,87 @@
+// Whole lines are taken from the input as long as there is room for their answers.
+// Promise (specs/Taking.antt): `take_lines` takes whole lines one after the other, each answered as the protocol says (`Takes`, over `lineAt`
+// of protocol/specs/Lines.antt), on the book and the count of lines of the line before; a whole line is left only where there was no room
+// for its answer (`Took`). What the layer above may use: `Desk`, `take_lines`, and the laws of proofs/Taking.antt and Progress.antt.
+ghost use mathlib.Core.Path.{_≡_};
+ghost use Prim.Native.Nat.{_≤_};
+ghost use lib.ListN.{length};
+ghost use Rattle.book.specs.Book.{Reachable};
+ghost use Rattle.protocol.specs.Lines.{longestLine};
+ghost use Rattle.input.specs.Input.{Holds};
+ghost use Rattle.taking.specs.Taking.{hasRoom, Took};
+use book::Book;
+use input::Input;
+use protocol::Said;
+
+// What is kept from turn to turn: the book, how many lines were taken, how many bytes wait in the output, and the input.
+pub struct Desk {
+    pub book: Book,
+    pub lines: u64,
+    pub at: usize,
+    pub input: Input,
+}
+
+// Whether there is room for another answer behind `at` in the output, and a number for another line.
+fn room(at: usize, size: usize, l: u64) -> bool
+    ensures { λ r. ⌜ r ≡ hasRoom at size l ⌝ }
+{
+    if size < 344 {
+        return false;
+    }
+    if size - 344 < at {
+        return false;
+    }
+    l < u64::MAX
+}
+
+// Takes whole lines, as long as there is room for their answers.
+pub fn take_lines(
+    b: Book,
+    lines: u64,
+    i: Input,
+    input: &[u8],
+    numbers: &mut [u32],
+    out: &mut [u8],
+) -> Desk
+    requires { ⌜ Reachable b × Holds i (length (now input)) × (longestLine ≤ length (now numbers)) ⌝ }
+    ensures { λ r. ⌜ Took b lines i (now (input .entry)) (now (out .entry)) r (now (out .exit)) ⌝ }
+{
+    let to = i.to;
+    let mut book = b;
+    let mut from = i.from;
+    let mut cut = i.cut;
+    let mut l = lines;
+    let mut at: usize = 0;
+    let mut end = lines::line_end(input, from, to);
+    while end < to && room(at, out.len(), l) {
+        l += 1;
+        let said = protocol::say_line(book, input, from, end, cut, l, numbers, out, at);
+        match said {
+            Said::Answer(next) => {
+                at = next;
+            }
+            Said::Do(step, n) => {
+                let after = protocol::do_step(book, step, &numbers[..n], out, at);
+                at = after.at;
+                let next = after.book;
+                book = next;
+            }
+        }
+        cut = false;
+        from = end + 1;
+        end = lines::line_end(input, from, to);
+    }
+    Desk {
+        book,
+        lines: l,
+        at,
+        input: Input {
+            from,
+            to,
+            cut,
+            more: end < to,
+            ended: i.ended,
+            on: i.on,
+        },
+    }
+}

@@ -17,8 +17,9 @@ use borrow.Author.Tests.{ltb-true, ltb-false, lt-ltb}
 use Rattle.book.specs.declared.Book.{Book}
 use Rattle.book.specs.Book.{fresh}
 use Rattle.laws.proofs.Never.{never}
-use Rattle.protocol.specs.Lines.{longestLine, lineAt, between}
-use Rattle.protocol.proofs.Parts.{length-between}
+use Rattle.lines.specs.Words.{longestLine, between}
+use Rattle.protocol.specs.Lines.{lineAt}
+use Rattle.lines.proofs.Parts.{length-between}
 use Rattle.input.specs.declared.Input.{Input}
 use Rattle.input.specs.Input.{Holds, Keeps, isLeft, AfterRead, stopped, afterWrite}
 use Rattle.input.proofs.Between.{between-split, between-one}

@@ -10,7 +10,7 @@ use lib.IntN.{ℤ}
 use lib.ListN.{length, take}
 use Rattle.libc.specs.Io.{Moved}
 use Rattle.book.specs.Book.{fresh, Reachable}
-use Rattle.protocol.specs.Lines.{longestLine}
+use Rattle.lines.specs.Words.{longestLine}
 use Rattle.input.specs.declared.Input.{Input}
 use Rattle.input.specs.Input.{Holds, Keeps, stopped, AfterRead, afterWrite}
 use Rattle.taking.specs.declared.Desk.{Desk}

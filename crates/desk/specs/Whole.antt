@@ -8,7 +8,7 @@ use lib.IntN.{ℤ, pos, negsuc}
 use lib.ListN.{length}
 use lib.Signed.{ltZ}
 use Rattle.book.specs.Book.{fresh}
-use Rattle.protocol.specs.Lines.{longestLine, between}
+use Rattle.lines.specs.Words.{longestLine, between}
 use Rattle.input.specs.declared.Input.{Input}
 use Rattle.input.specs.Input.{isLeft}
 use Rattle.taking.specs.declared.Desk.{Desk}

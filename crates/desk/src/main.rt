@@ -10,7 +10,7 @@
 ghost use mathlib.Core.Path.{_≡_};
 ghost use Prim.Native.Nat.{_≤_, _<_};
 ghost use lib.ListN.{length};
-ghost use Rattle.protocol.specs.Lines.{longestLine};
+ghost use Rattle.lines.specs.Words.{longestLine};
 ghost use Rattle.input.specs.Input.{Holds};
 ghost use Rattle.desk.specs.Desk.{Reads, Fills, Flushes, Steady, Turns, atStart, Runs};
 use input::Input;

@@ -6,8 +6,8 @@ use Prim.Native.Nat.{ℕ, zero, suc, _+_, _-_, _<_, _≤_}
 use native.Mathlib.Omega.{arith}
 use lib.ListN.{length, getD, take, drop}
 use lib.Seq.{length-take-le, ext-getD, getD-take, getD-drop, take-add, drop-drop, drop-cons}
-use Rattle.protocol.specs.Lines.{between}
-use Rattle.protocol.proofs.Parts.{length-between}
+use Rattle.lines.specs.Words.{between}
+use Rattle.lines.proofs.Parts.{length-between}
 
 -- a list that begins with the bytes between two places
 pub front-is : (xs ys : List ℕ) (from to : ℕ) → to ≤ length xs → length ys ≡ length xs

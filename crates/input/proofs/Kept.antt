@@ -8,7 +8,7 @@ use native.Mathlib.Omega.{arith}
 use lib.Dec.{ltb}
 use borrow.Author.Tests.{ltb-false, lt-ltb}
 use Rattle.laws.proofs.Never.{never}
-use Rattle.protocol.specs.Lines.{longestLine}
+use Rattle.lines.specs.Words.{longestLine}
 use Rattle.input.specs.declared.Input.{Input}
 use Rattle.input.specs.Input.{Holds, Keeps, isLeft, stopped}
 

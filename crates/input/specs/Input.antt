@@ -7,7 +7,7 @@ use Prim.Native.Nat.{ℕ, zero, suc, _+_, _-_, _≤_}
 use lib.Dec.{ltb}
 use lib.IntN.{ℤ, pos, negsuc}
 use lib.ListN.{length, take, set}
-use Rattle.protocol.specs.Lines.{longestLine, between}
+use Rattle.lines.specs.Words.{longestLine, between}
 use Rattle.input.specs.declared.Input.{Input}
 
 -- what the desk has of the input lies within a buffer of this length

@@ -7,7 +7,7 @@ ghost use mathlib.Core.Path.{_≡_};
 ghost use Prim.Native.Nat.{_-_, _≤_, _<_};
 ghost use lib.ListN.{length, take};
 ghost use Rattle.libc.specs.Io.{Moved};
-ghost use Rattle.protocol.specs.Lines.{between};
+ghost use Rattle.lines.specs.Words.{between};
 ghost use Rattle.input.specs.Input.{Holds, atFront, Keeps, Closes, stopped, AfterRead, afterWrite};
 
 // The bytes from..to of the buffer are read and not yet taken; `cut`: the start of their line was dropped, since it is too long;

@@ -2,9 +2,9 @@
 -- Assumes nothing.
 use mathlib.Core.Bool.{cond}
 use mathlib.Core.List.{List, [], _∷_}
-use Prim.Native.Nat.{ℕ, suc}
+use Prim.Native.Nat.{ℕ, suc, _-_}
 use lib.Dec.{eqb}
-use lib.ListN.{length, getD, take}
+use lib.ListN.{length, getD, take, drop}
 use Rattle.bytes.specs.Bytes.{indexOf}
 
 -- a byte in front of the first part, of which there is always one
@@ -40,3 +40,11 @@ wordIn line = take (indexOf 32 line) line
 unfoldable pub withoutReturn : List ℕ → List ℕ
 withoutReturn [] = []
 withoutReturn (b ∷ bs) = cond (eqb (getD (b ∷ bs) (length bs) 0) 13) (take (length bs) (b ∷ bs)) (b ∷ bs)
+
+-- how many bytes a line may have, its line feed not counted
+abbrev pub longestLine : ℕ
+longestLine = 16384
+
+-- the bytes of an input from one place to another
+abbrev pub between : List ℕ → ℕ → ℕ → List ℕ
+between input from to = take (to - from) (drop from input)

@@ -16,7 +16,7 @@ use Rattle.book.specs.Promises.{answerOf, Does}
 use Rattle.book.proofs.Reached.{does-reachable}
 use Rattle.queries.specs.Queries.{Telling}
 use Rattle.texts.specs.Writing.{Puts}
-use Rattle.lines.specs.Words.{withoutReturn}
+use Rattle.lines.specs.Words.{longestLine, withoutReturn}
 use Rattle.request.specs.declared.Step.{Step}
 use Rattle.request.specs.declared.Query.{Query}
 use Rattle.request.specs.declared.Word.{Word}
@@ -28,7 +28,7 @@ use Rattle.request.specs.Requests.{requestOf, numbersOf, Ready}
 use Rattle.errors.specs.Errors.{problemText}
 use Rattle.answers.specs.Answers.{answerText, toldText}
 use Rattle.protocol.specs.declared.Said.the-variants.{Answer, Do}
-use Rattle.protocol.specs.Lines.{toldOf, stepLine, callLine, problemLine, requestLine, longestLine, longLine, lineAt}
+use Rattle.protocol.specs.Lines.{toldOf, stepLine, callLine, problemLine, requestLine, longLine, lineAt}
 use Rattle.protocol.specs.Promises.{Answered, Says}
 
 -- a request that is no call

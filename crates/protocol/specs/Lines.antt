@@ -2,16 +2,16 @@
 -- Assumes nothing.
 use mathlib.Core.Bool.{Bool, cond, _||_}
 use mathlib.Core.List.{List}
-use Prim.Native.Nat.{ℕ, _-_}
+use Prim.Native.Nat.{ℕ}
 use lib.Dec.{ltb}
-use lib.ListN.{length, getD, take, drop}
+use lib.ListN.{length, getD, drop}
 use Rattle.calendar.specs.declared.Period.{Period}
 use Rattle.book.specs.declared.Book.{Book}
 use Rattle.book.specs.Calls.{Sheet, sheetAt, Act, SET, PUT, OPEN, CLOSE, DROP, Call, call}
 use Rattle.book.specs.Book.{step}
 use Rattle.queries.specs.Queries.{Telling, benchmarkOf, maximumOf, quoteOf}
 use Rattle.trial.specs.Trial.{trialOf}
-use Rattle.lines.specs.Words.{withoutReturn}
+use Rattle.lines.specs.Words.{longestLine, withoutReturn}
 use Rattle.request.specs.declared.Step.{Step}
 use Rattle.request.specs.declared.Step.the-variants.{Set, Put, Open, Close, Drop}
 use Rattle.request.specs.declared.Query.{Query}
@@ -72,10 +72,6 @@ requestLine b l Unknown ns = problemLine b l Unknown
 requestLine b l (NotANumber k) ns = problemLine b l (NotANumber k)
 requestLine b l (WrongCount w) ns = problemLine b l (WrongCount w)
 
--- how many bytes a line may have, its line feed not counted
-abbrev pub longestLine : ℕ
-longestLine = 16384
-
 -- line l without its line feed; `cut`: its start was dropped, since it is too long
 abbrev pub longLine : Book → ℕ → Response
 longLine b l = record { book = b; text = tooLong l }
@@ -84,7 +80,3 @@ unfoldable pub lineAt : Book → ℕ → (cut : Bool) → List ℕ → Response
 lineAt b l cut bytes =
     cond (cut || ltb longestLine (length bytes)) (longLine b l)
     (requestLine b l (requestOf (withoutReturn bytes)) (numbersOf (withoutReturn bytes)))
-
--- the bytes of the input from one place to another
-abbrev pub between : List ℕ → ℕ → ℕ → List ℕ
-between input from to = take (to - from) (drop from input)

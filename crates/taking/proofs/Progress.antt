@@ -12,7 +12,7 @@ use Rattle.laws.proofs.Every.{and-both}
 use Rattle.book.specs.declared.Book.{Book}
 use Rattle.laws.proofs.Never.{never}
 use Rattle.answers.specs.Answers.{answerRoom}
-use Rattle.protocol.specs.Lines.{between}
+use Rattle.lines.specs.Words.{between}
 use Rattle.input.specs.declared.Input.{Input}
 use Rattle.taking.specs.declared.Desk.{Desk}
 use Rattle.taking.specs.Taking.{hasFeed, hasRoom, Took}

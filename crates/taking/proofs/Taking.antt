@@ -18,8 +18,9 @@ use Rattle.book.specs.Book.{Reachable}
 use Rattle.texts.specs.Writing.{Puts}
 use Rattle.answers.specs.Answers.{answerRoom}
 use Rattle.texts.proofs.Writing.{puts-behind, puts-none}
-use Rattle.protocol.specs.Lines.{lineAt, between}
-use Rattle.protocol.proofs.Parts.{length-between}
+use Rattle.lines.specs.Words.{between}
+use Rattle.protocol.specs.Lines.{lineAt}
+use Rattle.lines.proofs.Parts.{length-between}
 use Rattle.input.specs.declared.Input.{Input}
 use Rattle.input.proofs.Between.{between-split, between-one, between-none}
 use Rattle.taking.specs.Taking.{hasFeed, Takes, none-taken, line-taken, hasRoom}

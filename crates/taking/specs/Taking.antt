@@ -10,7 +10,8 @@ use Rattle.book.specs.declared.Book.{Book}
 use Rattle.book.specs.Book.{Reachable}
 use Rattle.texts.specs.Writing.{Puts}
 use Rattle.answers.specs.Answers.{answerRoom}
-use Rattle.protocol.specs.Lines.{lineAt, between}
+use Rattle.lines.specs.Words.{between}
+use Rattle.protocol.specs.Lines.{lineAt}
 use Rattle.input.specs.declared.Input.{Input}
 use Rattle.input.specs.Input.{Holds}
 use Rattle.taking.specs.declared.Desk.{Desk}

@@ -6,7 +6,7 @@ ghost use mathlib.Core.Path.{_≡_};
 ghost use Prim.Native.Nat.{_≤_};
 ghost use lib.ListN.{length};
 ghost use Rattle.book.specs.Book.{Reachable};
-ghost use Rattle.protocol.specs.Lines.{longestLine};
+ghost use Rattle.lines.specs.Words.{longestLine};
 ghost use Rattle.input.specs.Input.{Holds};
 ghost use Rattle.taking.specs.Taking.{hasRoom, Took};
 use book::Book;

@@ -5,7 +5,7 @@ use Prim.Native.Nat.{_-_}
 use native.Mathlib.Omega.{arith}
 use borrow.Author.Tests.{lt-ltb, le-ltb}
 use borrow.Author.Needs.{needs}
-use Rattle.protocol.specs.Lines.{longestLine}
+use Rattle.lines.specs.Words.{longestLine}
 use Rattle.input.proofs.keep.Statement.{statement}
 use Rattle.input.proofs.keep.Tie as tie
 

@@ -3,8 +3,8 @@
 use mathlib.Core.Path.{refl}
 use native.Mathlib.Omega.{arith}
 use borrow.Author.Needs.{needs}
-use Rattle.protocol.specs.Lines.{between}
-use Rattle.protocol.proofs.Parts.{length-between}
+use Rattle.lines.specs.Words.{between}
+use Rattle.lines.proofs.Parts.{length-between}
 use Rattle.protocol.proofs.Lines.{cut-line, long-line, short-line}
 use Rattle.protocol.proofs.say_line.Statement.{statement}
 use Rattle.protocol.proofs.say_line.Tie as tie

@@ -4,7 +4,7 @@ use Prim.Native.Nat.{_≤_}
 use native.Mathlib.Omega.{arith}
 use lib.ListN.{length}
 use borrow.Author.Needs.{needs}
-use Rattle.protocol.proofs.Parts.{rest}
+use Rattle.lines.proofs.Parts.{rest}
 use Rattle.protocol.proofs.stepped.Statement.{statement}
 use Rattle.protocol.proofs.stepped.Tie as tie
 

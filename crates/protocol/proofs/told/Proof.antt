@@ -5,7 +5,7 @@ use Prim.Native.Nat.{_≤_}
 use native.Mathlib.Omega.{arith}
 use lib.ListN.{length}
 use borrow.Author.Needs.{needs}
-use Rattle.protocol.proofs.Parts.{rest}
+use Rattle.lines.proofs.Parts.{rest}
 use Rattle.protocol.proofs.told.Statement.{statement}
 use Rattle.protocol.proofs.told.Tie as tie
 

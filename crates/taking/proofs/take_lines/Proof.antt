@@ -11,7 +11,8 @@ use borrow.Author.Tests.{ltb-true}
 use Rattle.texts.proofs.Writing.{puts-size}
 use Rattle.answers.specs.Answers.{answerRoom}
 use Rattle.protocol.specs.declared.Said.the-variants.{Do}
-use Rattle.protocol.specs.Lines.{Response, lineAt, between}
+use Rattle.lines.specs.Words.{between}
+use Rattle.protocol.specs.Lines.{Response, lineAt}
 use Rattle.protocol.specs.Promises.{Answered, Says}
 use Rattle.taking.specs.Taking.{hasRoom}
 use Rattle.taking.proofs.Taking.{feed-left, room-yes, Sofar, sofar-none, sofar-more}

@@ -2,7 +2,8 @@
 -- Assumes nothing.
 use mathlib.Core.Path.{_≡_, refl}
 use Rattle.texts.specs.Texts.{bytesOf, digitsWithin, decimal}
-use Rattle.request.specs.declared.Step.the-variants.{Set, Put, Open}
+use Rattle.request.specs.declared.CodeStep.the-variants.{Open}
+use Rattle.request.specs.declared.Step.the-variants.{Set, Put, On}
 use Rattle.request.specs.declared.Query.the-variants.{Benchmark}
 use Rattle.request.specs.declared.Word.the-variants.{Steps, Tells}
 use Rattle.request.specs.declared.Request.the-variants.{NotANumber, WrongCount}
@@ -16,7 +17,7 @@ put : problemText 12 (WrongCount (Steps Put)) ≡ bytesOf "error line 12: put ta
 unfolding decimal digitsWithin
 put = refl
 
-one : problemText 12 (WrongCount (Steps Open)) ≡ bytesOf "error line 12: open takes 1 number\n"
+one : problemText 12 (WrongCount (Steps (On Open))) ≡ bytesOf "error line 12: open takes 1 number\n"
 unfolding decimal digitsWithin
 one = refl
 

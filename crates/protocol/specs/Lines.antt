@@ -13,7 +13,8 @@ use Rattle.queries.specs.Queries.{Telling, benchmarkOf, maximumOf, quoteOf}
 use Rattle.trial.specs.Trial.{trialOf}
 use Rattle.lines.specs.Words.{longestLine, withoutReturn}
 use Rattle.request.specs.declared.Step.{Step}
-use Rattle.request.specs.declared.Step.the-variants.{Set, Put, Open, Close, Drop}
+use Rattle.request.specs.declared.CodeStep.the-variants.{Open, Close, Drop}
+use Rattle.request.specs.declared.Step.the-variants.{Set, Put, On}
 use Rattle.request.specs.declared.Query.{Query}
 use Rattle.request.specs.declared.Query.the-variants.{Benchmark, Maximum, Quote, Trial}
 use Rattle.request.specs.declared.Word.{Word}
@@ -35,9 +36,9 @@ givenSheet ns = sheetAt (drop 3 ns) (periodOf ns)
 abbrev pub stepOf : Step → List ℕ → Act
 stepOf Set ns = SET (givenSheet ns)
 stepOf Put ns = PUT (getD ns 0 0) (drop 1 ns)
-stepOf Open ns = OPEN (getD ns 0 0)
-stepOf Close ns = CLOSE (getD ns 0 0)
-stepOf Drop ns = DROP (getD ns 0 0)
+stepOf (On Open) ns = OPEN (getD ns 0 0)
+stepOf (On Close) ns = CLOSE (getD ns 0 0)
+stepOf (On Drop) ns = DROP (getD ns 0 0)
 
 -- what the book tells to these numbers
 abbrev pub toldOf : Book → Query → List ℕ → Telling

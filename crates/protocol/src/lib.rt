@@ -3,12 +3,15 @@
 // leaves the book as it is, and says which step any other asks for; `do_step` does that step and answers it. They require document
 // 01's own sentence on the book, `Reachable`. The step is a call of its own so that the book is handed back only where it may change.
 ghost use mathlib.Core.Path.{_≡_};
-ghost use Prim.Native.Nat.{_+_, _≤_};
-ghost use lib.ListN.{length};
+ghost use mathlib.Core.List.{List};
+ghost use Prim.Native.Nat.{ℕ, _+_, _≤_};
+ghost use lib.ListN.{length, getD};
 ghost use Rattle.book.specs.Calls.{call};
 ghost use Rattle.book.specs.Book.{Reachable};
 ghost use Rattle.book.specs.Promises.{Does};
 ghost use Rattle.queries.specs.Queries.{tellingOf};
+ghost use Rattle.codes.specs.Codes.{actOn};
+ghost use Rattle.request.specs.declared.Step.the-variants.{On};
 ghost use Rattle.request.specs.Requests.{arity, RightCount, requestOf, numbersOf};
 ghost use Rattle.request.specs.declared.Word.the-variants.{Steps, Tells};
 ghost use Rattle.answers.specs.Answers.{answerRoom};
@@ -20,6 +23,7 @@ use book::Done;
 use calendar::Period;
 use codes::CodeAct;
 use queries::Told;
+use request::CodeStep;
 use request::Query;
 use request::Request;
 use request::Step;
@@ -37,6 +41,17 @@ fn period_of(numbers: &[u32]) -> Period
     }
 }
 
+// What a call on a code does.
+fn act_of(on: CodeStep) -> CodeAct
+    ensures { λ r. ⌜ ((ns : List ℕ) → actOn r (getD ns 0 0) ≡ stepOf (On on) ns) ⌝ }
+{
+    match on {
+        CodeStep::Open => CodeAct::Open,
+        CodeStep::Close => CodeAct::Close,
+        CodeStep::Drop => CodeAct::Drop,
+    }
+}
+
 // A step with its numbers.
 fn stepped(b: Book, step: Step, numbers: &[u32]) -> Done
     requires { ⌜ Reachable b × RightCount (arity (Steps step)) (length (now numbers)) ⌝ }
@@ -48,9 +63,7 @@ fn stepped(b: Book, step: Step, numbers: &[u32]) -> Done
             setting::set(b, &numbers[3..], period)
         }
         Step::Put => codes::put(b, numbers[0], &numbers[1..]),
-        Step::Open => codes::act_on(b, numbers[0], CodeAct::Open),
-        Step::Close => codes::act_on(b, numbers[0], CodeAct::Close),
-        Step::Drop => codes::act_on(b, numbers[0], CodeAct::Drop),
+        Step::On(on) => codes::act_on(b, numbers[0], act_of(on)),
     }
 }
 

@@ -12,9 +12,6 @@ use Rattle.book.specs.Calls.{sheetAt, Act, SET, PUT, OPEN, CLOSE, DROP, Call, c
 use Rattle.book.specs.Book.{step, Reachable}
 use Rattle.book.specs.Promises.{answerOf, Does}
 use Rattle.book.proofs.Reached.{does-reachable}
-use Rattle.codes.specs.declared.CodeAct.{CodeAct}
-use Rattle.codes.specs.declared.CodeAct.the-variants.{Open, Close, Drop}
-use Rattle.codes.specs.Codes.{Handed}
 use Rattle.replay.specs.declared.Ran.{Ran}
 use Rattle.replay.specs.Encoded.{encodeAct, numberOf}
 use Rattle.replay.specs.Running.{endOf, actTo, RanAt}
@@ -50,11 +47,6 @@ decoded (PUT k x) rest =
 decoded (OPEN k) rest = record { fits = omega arith; asks = refl; left = refl }
 decoded (CLOSE k) rest = record { fits = omega arith; asks = refl; left = refl }
 decoded (DROP k) rest = record { fits = omega arith; asks = refl; left = refl }
-
-pub handed : {b : Book} → Reachable b → (a : CodeAct) → Handed a b
-handed r Open = r
-handed r Close = tt
-handed r Drop = tt
 
 module _ (b : Book) (s : List ℕ) (start : Reachable b) (r : Ran) where
   starts : (c : Call) (rest : List ℕ) → s ≡ encodeAct (c .act) ++ rest → Starts s (c .act) rest

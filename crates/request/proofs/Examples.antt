@@ -5,7 +5,8 @@ use mathlib.Core.List.{[], _∷_}
 use Rattle.texts.specs.Texts.{bytesOf}
 use Rattle.lines.specs.Words.{parts, notEmpty, words}
 use Rattle.lines.specs.Numerals.{digits, valueAfter, value, numbersIn}
-use Rattle.request.specs.declared.Step.the-variants.{Set, Put, Open, Close, Drop}
+use Rattle.request.specs.declared.CodeStep.the-variants.{Open, Close, Drop}
+use Rattle.request.specs.declared.Step.the-variants.{Set, Put, On}
 use Rattle.request.specs.declared.Query.the-variants.{Benchmark, Maximum, Quote, Trial}
 use Rattle.request.specs.declared.Word.the-variants.{Steps, Tells}
 use Rattle.request.specs.declared.Request.the-variants.{Nothing, Asks, Unknown, NotANumber, WrongCount}
@@ -45,15 +46,15 @@ signed : requestOf (bytesOf "open -1 2") ≡ NotANumber 2
 unfolding requestOf words parts notEmpty same named numbersIn digits valueAfter value
 signed = refl
 
-two : requestOf (bytesOf "open 1 2") ≡ WrongCount (Steps Open)
+two : requestOf (bytesOf "open 1 2") ≡ WrongCount (Steps (On Open))
 unfolding requestOf words parts notEmpty same named numbersIn digits valueAfter value
 two = refl
 
-closed : requestOf (bytesOf "close 1") ≡ Asks (Steps Close) 1
+closed : requestOf (bytesOf "close 1") ≡ Asks (Steps (On Close)) 1
 unfolding requestOf words parts notEmpty same named numbersIn digits valueAfter value
 closed = refl
 
-dropped : requestOf (bytesOf "drop 1") ≡ Asks (Steps Drop) 1
+dropped : requestOf (bytesOf "drop 1") ≡ Asks (Steps (On Drop)) 1
 unfolding requestOf words parts notEmpty same named numbersIn digits valueAfter value
 dropped = refl
 

@@ -9,7 +9,8 @@ use lib.Dec.{eqb}
 use lib.ListN.{length, getD}
 use borrow.Author.Tests.{eqb-true}
 use Rattle.laws.proofs.Every.{and-left, and-right}
-use Rattle.request.specs.declared.Step.the-variants.{Set, Put, Open, Close, Drop}
+use Rattle.request.specs.declared.CodeStep.the-variants.{Open, Close, Drop}
+use Rattle.request.specs.declared.Step.the-variants.{Set, Put, On}
 use Rattle.request.specs.declared.Query.the-variants.{Benchmark, Maximum, Quote, Trial}
 use Rattle.request.specs.declared.Word.{Word}
 use Rattle.request.specs.declared.Word.the-variants.{Steps, Tells}
@@ -32,9 +33,9 @@ named-by : (c : Word) → named calls (nameOf c) ≡ By c
 unfolding named same
 named-by (Steps Set) = refl
 named-by (Steps Put) = refl
-named-by (Steps Open) = refl
-named-by (Steps Close) = refl
-named-by (Steps Drop) = refl
+named-by (Steps (On Open)) = refl
+named-by (Steps (On Close)) = refl
+named-by (Steps (On Drop)) = refl
 named-by (Tells Benchmark) = refl
 named-by (Tells Maximum) = refl
 named-by (Tells Quote) = refl
@@ -57,17 +58,17 @@ none-named (c ∷ cs) w h = skip w c (named cs w) (h c) ∙ none-named cs w h
 abbrev callBy : ℕ → Word
 callBy n =
     cond (eqb n 98) (Tells Benchmark)
-    (cond (eqb n 99) (Steps Close)
-    (cond (eqb n 100) (Steps Drop)
+    (cond (eqb n 99) (Steps (On Close))
+    (cond (eqb n 100) (Steps (On Drop))
     (cond (eqb n 109) (Tells Maximum)
-    (cond (eqb n 111) (Steps Open) (cond (eqb n 112) (Steps Put) (cond (eqb n 113) (Tells Quote) (cond (eqb n 115) (Steps Set) (Tells Trial))))))))
+    (cond (eqb n 111) (Steps (On Open)) (cond (eqb n 112) (Steps Put) (cond (eqb n 113) (Tells Quote) (cond (eqb n 115) (Steps Set) (Tells Trial))))))))
 
 by-first : (c : Word) → c ≡ callBy (getD (nameOf c) 0 0)
 by-first (Steps Set) = refl
 by-first (Steps Put) = refl
-by-first (Steps Open) = refl
-by-first (Steps Close) = refl
-by-first (Steps Drop) = refl
+by-first (Steps (On Open)) = refl
+by-first (Steps (On Close)) = refl
+by-first (Steps (On Drop)) = refl
 by-first (Tells Benchmark) = refl
 by-first (Tells Maximum) = refl
 by-first (Tells Quote) = refl
@@ -81,9 +82,9 @@ pub last-call : (n : ℕ) → (n ≡ 98 → ⊥) → (n ≡ 99 → ⊥) → (n �
     → (c : Word) → getD (nameOf c) 0 0 ≡ n → c ≡ Tells Trial
 last-call n b k d m o p q s (Steps Set) e = absurd (s (sym e))
 last-call n b k d m o p q s (Steps Put) e = absurd (p (sym e))
-last-call n b k d m o p q s (Steps Open) e = absurd (o (sym e))
-last-call n b k d m o p q s (Steps Close) e = absurd (k (sym e))
-last-call n b k d m o p q s (Steps Drop) e = absurd (d (sym e))
+last-call n b k d m o p q s (Steps (On Open)) e = absurd (o (sym e))
+last-call n b k d m o p q s (Steps (On Close)) e = absurd (k (sym e))
+last-call n b k d m o p q s (Steps (On Drop)) e = absurd (d (sym e))
 last-call n b k d m o p q s (Tells Benchmark) e = absurd (b (sym e))
 last-call n b k d m o p q s (Tells Maximum) e = absurd (m (sym e))
 last-call n b k d m o p q s (Tells Quote) e = absurd (q (sym e))

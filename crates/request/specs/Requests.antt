@@ -11,7 +11,8 @@ use Rattle.lines.specs.declared.Numbers.{Numbers}
 use Rattle.lines.specs.declared.Numbers.the-variants.{All, Bad}
 use Rattle.lines.specs.Words.{words}
 use Rattle.lines.specs.Numerals.{value, numbersIn}
-use Rattle.request.specs.declared.Step.the-variants.{Set, Put, Open, Close, Drop}
+use Rattle.request.specs.declared.CodeStep.the-variants.{Open, Close, Drop}
+use Rattle.request.specs.declared.Step.the-variants.{Set, Put, On}
 use Rattle.request.specs.declared.Query.the-variants.{Benchmark, Maximum, Quote, Trial}
 use Rattle.request.specs.declared.Word.{Word}
 use Rattle.request.specs.declared.Word.the-variants.{Steps, Tells}
@@ -25,14 +26,14 @@ use Rattle.request.specs.declared.Request.the-variants.{Nothing, Asks, U
 
 -- the nine calls: five steps of the book, and four that it tells of
 abbrev pub calls : List Word
-calls = Steps Set ∷ Steps Put ∷ Steps Open ∷ Steps Close ∷ Steps Drop ∷ Tells Benchmark ∷ Tells Maximum ∷ Tells Quote ∷ Tells Trial ∷ []
+calls = Steps Set ∷ Steps Put ∷ Steps (On Open) ∷ Steps (On Close) ∷ Steps (On Drop) ∷ Tells Benchmark ∷ Tells Maximum ∷ Tells Quote ∷ Tells Trial ∷ []
 
 abbrev pub nameOf : Word → List ℕ
 nameOf (Steps Set) = bytesOf "set"
 nameOf (Steps Put) = bytesOf "put"
-nameOf (Steps Open) = bytesOf "open"
-nameOf (Steps Close) = bytesOf "close"
-nameOf (Steps Drop) = bytesOf "drop"
+nameOf (Steps (On Open)) = bytesOf "open"
+nameOf (Steps (On Close)) = bytesOf "close"
+nameOf (Steps (On Drop)) = bytesOf "drop"
 nameOf (Tells Benchmark) = bytesOf "benchmark"
 nameOf (Tells Maximum) = bytesOf "maximum"
 nameOf (Tells Quote) = bytesOf "quote"
@@ -42,9 +43,7 @@ nameOf (Tells Trial) = bytesOf "trial"
 abbrev pub arity : Word → Arity
 arity (Steps Set) = AtLeast 3
 arity (Steps Put) = AtLeast 1
-arity (Steps Open) = Exactly 1
-arity (Steps Close) = Exactly 1
-arity (Steps Drop) = Exactly 1
+arity (Steps (On step)) = Exactly 1
 arity (Tells Benchmark) = Exactly 4
 arity (Tells Maximum) = Exactly 4
 arity (Tells Quote) = AtLeast 3

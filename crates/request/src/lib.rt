@@ -9,13 +9,18 @@ ghost use Rattle.request.specs.declared.Word.{Word};
 ghost use Rattle.request.specs.Requests.{calls, nameOf, arity, rightCount, FormOf, named, requestOf, Standing};
 use lines::Numbers;
 
+// The calls on a code alone.
+pub enum CodeStep {
+    Open,
+    Close,
+    Drop,
+}
+
 // The calls that may change the book.
 pub enum Step {
     Set,
     Put,
-    Open,
-    Close,
-    Drop,
+    On(CodeStep),
 }
 
 // The calls that tell of it.
@@ -78,9 +83,11 @@ pub fn form_of(word: Word) -> Form
         Word::Steps(step) => match step {
             Step::Set => formed(*b"set      ", 3, Arity::AtLeast(3)),
             Step::Put => formed(*b"put      ", 3, Arity::AtLeast(1)),
-            Step::Open => formed(*b"open     ", 4, Arity::Exactly(1)),
-            Step::Close => formed(*b"close    ", 5, Arity::Exactly(1)),
-            Step::Drop => formed(*b"drop     ", 4, Arity::Exactly(1)),
+            Step::On(on) => match on {
+                CodeStep::Open => formed(*b"open     ", 4, Arity::Exactly(1)),
+                CodeStep::Close => formed(*b"close    ", 5, Arity::Exactly(1)),
+                CodeStep::Drop => formed(*b"drop     ", 4, Arity::Exactly(1)),
+            },
         },
         Word::Tells(query) => match query {
             Query::Benchmark => formed(*b"benchmark", 9, Arity::Exactly(4)),
@@ -97,10 +104,10 @@ fn beginning(first: u8) -> Word
 {
     match first {
         b'b' => Word::Tells(Query::Benchmark),
-        b'c' => Word::Steps(Step::Close),
-        b'd' => Word::Steps(Step::Drop),
+        b'c' => Word::Steps(Step::On(CodeStep::Close)),
+        b'd' => Word::Steps(Step::On(CodeStep::Drop)),
         b'm' => Word::Tells(Query::Maximum),
-        b'o' => Word::Steps(Step::Open),
+        b'o' => Word::Steps(Step::On(CodeStep::Open)),
         b'p' => Word::Steps(Step::Put),
         b'q' => Word::Tells(Query::Quote),
         b's' => Word::Steps(Step::Set),

@@ -1,9 +1,11 @@
 -- `protocol::stepped` meets its contract, step by step.
 -- Assumes nothing.
+use mathlib.Core.Path.{_≡_}
 use Prim.Native.Nat.{_≤_}
 use native.Mathlib.Omega.{arith}
 use lib.ListN.{length}
 use borrow.Author.Needs.{needs}
+use Rattle.codes.proofs.Handed.{handed}
 use Rattle.lines.proofs.Parts.{rest}
 use Rattle.protocol.proofs.stepped.Statement.{statement}
 use Rattle.protocol.proofs.stepped.Tie as tie
@@ -14,23 +16,20 @@ set-count c = rw (c .enum-told .given .1) at (c .before .before .before .pre .1)
 put-count : (c : tie.After-enum-told2) → 1 ≤ length (c .before .before .before .args .numbers .now)
 put-count c = rw (c .enum-told2 .given .1) at (c .before .before .before .pre .1)
 
+on-count : (c : tie.After-step) → length (c .before .before .before .args .numbers .now) ≡ 1
+on-count c = rw (c .step .given .1) at (c .before .before .before .pre .1)
+
 enum-told : tie.Need-enum-told
 enum-told c = c .match .keys1
 
-shared-slice-read-t7 : tie.Need-shared-slice-read-t7
-shared-slice-read-t7 c = omega (arith, set-count (c .before))
-
-shared-slice-read-t9 : tie.Need-shared-slice-read-t9
-shared-slice-read-t9 c = omega (arith, set-count (c .before .before))
-
-shared-slice-read-t11 : tie.Need-shared-slice-read-t11
-shared-slice-read-t11 c = omega (arith, set-count (c .before .before .before))
+period-of-requires : tie.Need-period-of-requires
+period-of-requires c κs = set-count c
 
 sub-set : tie.Need-sub-set
-sub-set c = omega (arith, set-count (c .before .before .before))
+sub-set c = omega (arith, set-count (c .before))
 
 part-set-start : tie.Need-part-set-start
-part-set-start c = omega (arith, set-count (c .before .before .before))
+part-set-start c = omega (arith, set-count (c .before))
 
 part-set-end : tie.Need-part-set-end
 part-set-end c = search needs
@@ -56,56 +55,37 @@ part-put-end c = search needs
 put-requires : tie.Need-put-requires
 put-requires c κs = search needs
 
-enum-told-3 : tie.Need-enum-told-3
-enum-told-3 c = c .match .keys3
+enum-known-step : tie.Need-enum-known-step
+enum-known-step c = c .match .keys3
 
 shared-slice-read-act-on : tie.Need-shared-slice-read-act-on
-shared-slice-read-act-on c = omega (arith, rw (c .before .enum-told3 .given .1) at (c .before .before .before .before .pre .1))
+shared-slice-read-act-on c = omega (arith, on-count (c .before .before))
+
+act-of-requires : tie.Need-act-of-requires
+act-of-requires c κs = search needs
 
 act-on-requires : tie.Need-act-on-requires
-act-on-requires c κs = search needs
-
-enum-told-4 : tie.Need-enum-told-4
-enum-told-4 c = c .match .keys4
-
-shared-slice-read-act-on-2 : tie.Need-shared-slice-read-act-on-2
-shared-slice-read-act-on-2 c = omega (arith, rw (c .before .enum-told4 .given .1) at (c .before .before .before .before .pre .1))
-
-act-on-requires-2 : tie.Need-act-on-requires-2
-act-on-requires-2 c κs = search needs
-
-enum-told-5 : tie.Need-enum-told-5
-enum-told-5 c = c .match .keys5
-
-shared-slice-read-act-on-3 : tie.Need-shared-slice-read-act-on-3
-shared-slice-read-act-on-3 c = omega (arith, rw (c .before .enum-told5 .given .1) at (c .before .before .before .before .pre .1))
-
-act-on-requires-3 : tie.Need-act-on-requires-3
-act-on-requires-3 c κs = search needs
+act-on-requires c κs = handed (c .before .before .before .before .before .before .pre .0) (c .act-of .result)
 
 returns : tie.Need-returns
-returns c = rw (c .before .before .before .before .before .enum-told .given .1) (rw (rest 3 (c .before .before .before .before .before .before .before .before .args .numbers .now)) at (c .set .ensures))
+returns c =
+    let told = c .before .before .before in
+    rw (told .enum-told .given .1) (rw (rest 3 (told .before .before .before .args .numbers .now), c .before .before .period-of .ensures) at (c .set .ensures))
 
 returns-2 : tie.Need-returns-2
 returns-2 c = rw (c .before .before .before .enum-told2 .given .1) (rw (rest 1 (c .before .before .before .before .before .before .args .numbers .now)) at (c .put .ensures))
 
 returns-3 : tie.Need-returns-3
-returns-3 c = rw (c .before .before .enum-told3 .given .1) (c .act-on .ensures)
-
-returns-4 : tie.Need-returns-4
-returns-4 c = rw (c .before .before .enum-told4 .given .1) (c .act-on2 .ensures)
-
-returns-5 : tie.Need-returns-5
-returns-5 c = rw (c .before .before .enum-told5 .given .1) (c .act-on3 .ensures)
+returns-3 c =
+    let at-step = c .before .before .before .before in
+    rw (at-step .step .given .1) (rw (c .before .act-of .ensures (at-step .before .before .before .args .numbers .now)) at (c .act-on .ensures))
 
 pub stepped-spec : {M : Type 1} → statement M
 stepped-spec =
     tie.close
     (tie.spec
     enum-told
-    shared-slice-read-t7
-    shared-slice-read-t9
-    shared-slice-read-t11
+    period-of-requires
     sub-set
     part-set-start
     part-set-end
@@ -116,17 +96,10 @@ stepped-spec =
     part-put-start
     part-put-end
     put-requires
-    enum-told-3
+    enum-known-step
     shared-slice-read-act-on
+    act-of-requires
     act-on-requires
-    enum-told-4
-    shared-slice-read-act-on-2
-    act-on-requires-2
-    enum-told-5
-    shared-slice-read-act-on-3
-    act-on-requires-3
     returns
     returns-2
-    returns-3
-    returns-4
-    returns-5)
+    returns-3)

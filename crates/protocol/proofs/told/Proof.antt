@@ -84,20 +84,14 @@ quote-requires c κs = search needs
 enum-told-4 : tie.Need-enum-told-4
 enum-told-4 c = c .match .keys4
 
-shared-slice-read-t33 : tie.Need-shared-slice-read-t33
-shared-slice-read-t33 c = omega (arith, trial-count (c .before))
-
-shared-slice-read-t35 : tie.Need-shared-slice-read-t35
-shared-slice-read-t35 c = omega (arith, trial-count (c .before .before))
-
-shared-slice-read-t37 : tie.Need-shared-slice-read-t37
-shared-slice-read-t37 c = omega (arith, trial-count (c .before .before .before))
+period-of-requires : tie.Need-period-of-requires
+period-of-requires c κs = trial-count c
 
 sub-trial : tie.Need-sub-trial
-sub-trial c = omega (arith, trial-count (c .before .before .before))
+sub-trial c = omega (arith, trial-count (c .before))
 
 part-trial-start : tie.Need-part-trial-start
-part-trial-start c = omega (arith, trial-count (c .before .before .before))
+part-trial-start c = omega (arith, trial-count (c .before))
 
 part-trial-end : tie.Need-part-trial-end
 part-trial-end c = search needs
@@ -115,7 +109,9 @@ returns-3 : tie.Need-returns-3
 returns-3 c = rw (c .before .before .before .before .before .enum-told3 .given .1) (rw (rest 3 (c .before .before .before .before .before .before .before .before .args .numbers .now)) at (c .quote .ensures))
 
 returns-4 : tie.Need-returns-4
-returns-4 c = rw (c .before .before .before .before .before .enum-told4 .given .1) (rw (rest 3 (c .before .before .before .before .before .before .before .before .args .numbers .now)) at (c .trial .ensures))
+returns-4 c =
+    let told = c .before .before .before in
+    rw (told .enum-told4 .given .1) (rw (rest 3 (told .before .before .before .args .numbers .now), c .before .before .period-of .ensures) at (c .trial .ensures))
 
 pub told-spec : {M : Type 1} → statement M
 told-spec =
@@ -142,9 +138,7 @@ told-spec =
     part-quote-end
     quote-requires
     enum-told-4
-    shared-slice-read-t33
-    shared-slice-read-t35
-    shared-slice-read-t37
+    period-of-requires
     sub-trial
     part-trial-start
     part-trial-end

@@ -3,7 +3,8 @@
 use native.Mathlib.Omega.{arith}
 use borrow.Author.Needs.{needs}
 use borrow.Author.Tests.{ne-eqb}
-use Rattle.replay.proofs.Decode.{set-end, put-end, handed}
+use Rattle.codes.proofs.Handed.{handed}
+use Rattle.replay.proofs.Decode.{set-end, put-end}
 use Rattle.replay.proofs.made.Statement.{statement}
 use Rattle.replay.proofs.made.Tie as tie
 

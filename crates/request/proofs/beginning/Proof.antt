@@ -1,7 +1,8 @@
 -- `request::beginning` meets its contract, byte by byte.
 -- Assumes nothing.
 use mathlib.Core.Path.{_∙_}
-use Rattle.request.specs.declared.Step.the-variants.{Set, Put, Open, Close, Drop}
+use Rattle.request.specs.declared.CodeStep.the-variants.{Open, Close, Drop}
+use Rattle.request.specs.declared.Step.the-variants.{Set, Put, On}
 use Rattle.request.specs.declared.Query.the-variants.{Benchmark, Maximum, Quote}
 use Rattle.request.specs.declared.Word.the-variants.{Steps, Tells}
 use Rattle.request.proofs.Names.{first-alone, last-call}
@@ -12,16 +13,16 @@ returns : tie.Need-returns
 returns c w e = first-alone w (Tells Benchmark) (e ∙ c .match .keys1)
 
 returns-2 : tie.Need-returns-2
-returns-2 c w e = first-alone w (Steps Close) (e ∙ c .match .keys2)
+returns-2 c w e = first-alone w (Steps (On Close)) (e ∙ c .match .keys2)
 
 returns-3 : tie.Need-returns-3
-returns-3 c w e = first-alone w (Steps Drop) (e ∙ c .match .keys3)
+returns-3 c w e = first-alone w (Steps (On Drop)) (e ∙ c .match .keys3)
 
 returns-4 : tie.Need-returns-4
 returns-4 c w e = first-alone w (Tells Maximum) (e ∙ c .match .keys4)
 
 returns-5 : tie.Need-returns-5
-returns-5 c w e = first-alone w (Steps Open) (e ∙ c .match .keys5)
+returns-5 c w e = first-alone w (Steps (On Open)) (e ∙ c .match .keys5)
 
 returns-6 : tie.Need-returns-6
 returns-6 c w e = first-alone w (Steps Put) (e ∙ c .match .keys6)

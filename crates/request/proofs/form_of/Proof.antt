@@ -19,6 +19,9 @@ enum-told-2 c = search needs
 formed-requires-2 : tie.Need-formed-requires-2
 formed-requires-2 c κs = search needs
 
+enum-known-step : tie.Need-enum-known-step
+enum-known-step c = search needs
+
 enum-told-3 : tie.Need-enum-told-3
 enum-told-3 c = search needs
 
@@ -71,13 +74,19 @@ returns-2 : tie.Need-returns-2
 returns-2 c = rw (c .before .before .before .before .before .before .word .given .1, c .before .before .before .enum-told2 .given .1) (c .formed2 .ensures)
 
 returns-3 : tie.Need-returns-3
-returns-3 c = rw (c .before .before .before .before .before .before .word .given .1, c .before .before .before .enum-told3 .given .1) (c .formed3 .ensures)
+returns-3 c =
+    let s = c .before .before .before .before .before .before in
+    rw (s .before .before .before .word .given .1, s .step .given .1, c .before .before .before .enum-told3 .given .1) (c .formed3 .ensures)
 
 returns-4 : tie.Need-returns-4
-returns-4 c = rw (c .before .before .before .before .before .before .word .given .1, c .before .before .before .enum-told4 .given .1) (c .formed4 .ensures)
+returns-4 c =
+    let s = c .before .before .before .before .before .before in
+    rw (s .before .before .before .word .given .1, s .step .given .1, c .before .before .before .enum-told4 .given .1) (c .formed4 .ensures)
 
 returns-5 : tie.Need-returns-5
-returns-5 c = rw (c .before .before .before .before .before .before .word .given .1, c .before .before .before .enum-told5 .given .1) (c .formed5 .ensures)
+returns-5 c =
+    let s = c .before .before .before .before .before .before in
+    rw (s .before .before .before .word .given .1, s .step .given .1, c .before .before .before .enum-told5 .given .1) (c .formed5 .ensures)
 
 returns-6 : tie.Need-returns-6
 returns-6 c = rw (c .before .before .before .before .before .before .word2 .given .1, c .before .before .before .enum-told6 .given .1) (c .formed6 .ensures)
@@ -100,6 +109,7 @@ form-of-spec =
     formed-requires
     enum-told-2
     formed-requires-2
+    enum-known-step
     enum-told-3
     formed-requires-3
     enum-told-4

@@ -1,0 +1,28 @@
+-- `protocol::act_of` meets its contract, call by call.
+-- Assumes nothing.
+use borrow.Author.Needs.{needs}
+use Rattle.protocol.proofs.act_of.Statement.{statement}
+use Rattle.protocol.proofs.act_of.Tie as tie
+
+enum-told : tie.Need-enum-told
+enum-told c = search needs
+
+enum-told-2 : tie.Need-enum-told-2
+enum-told-2 c = search needs
+
+enum-told-3 : tie.Need-enum-told-3
+enum-told-3 c = search needs
+
+returns : tie.Need-returns
+returns c ns = rw (c .enum-told .given .1)
+
+returns-2 : tie.Need-returns-2
+returns-2 c ns = rw (c .enum-told2 .given .1)
+
+returns-3 : tie.Need-returns-3
+returns-3 c ns = rw (c .enum-told3 .given .1)
+
+pub act-of-spec : {M : Type 1} → statement M
+act-of-spec =
+    tie.close
+    (tie.spec enum-told enum-told-2 enum-told-3 returns returns-2 returns-3)

@@ -26,6 +26,10 @@ digitsWithin (suc k) n = let tenth = digitsWithin k (n / 10) in withLast (ltb n 
 unfoldable pub decimal : ℕ → List ℕ
 decimal n = digitsWithin (suc n) n
 
+-- both digits of a number below 100
+abbrev pub twoDigits : ℕ → List ℕ
+twoDigits n = (48 + n / 10) ∷ (48 + n % 10) ∷ []
+
 -- numbers, each behind a space
 unfoldable pub spaced : List ℕ → List ℕ
 spaced [] = []

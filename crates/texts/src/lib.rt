@@ -3,9 +3,9 @@
 // and returns the place behind them (`Puts` of specs/Writing.antt). Each requires room for the longest text that it may write. The layers
 // above may use `put_text`, `put_number`, `put_line` and `put_numbered`, and the laws of texts one behind the other (proofs/Writing.antt).
 ghost use mathlib.Core.List.{_++_};
-ghost use Prim.Native.Nat.{_+_, _*_, _≤_};
+ghost use Prim.Native.Nat.{_+_, _*_, _<_, _≤_};
 ghost use lib.ListN.{length};
-ghost use Rattle.texts.specs.Texts.{decimal, spaced, lineOf};
+ghost use Rattle.texts.specs.Texts.{twoDigits, decimal, spaced, lineOf};
 ghost use Rattle.texts.specs.Writing.{Puts};
 
 // A text.
@@ -21,18 +21,31 @@ pub fn put_text(out: &mut [u8], at: usize, text: &[u8]) -> usize
     at + i
 }
 
-// The digits of a number: those of its tenth part, and the last one behind them.
+// The two digits of a number below 100.
+fn two_at(out: &mut [u8], at: usize, n: u64) -> usize
+    requires { ⌜ n < 100 ⌝ }
+    requires { ⌜ at + 2 ≤ length (now out) ⌝ }
+    ensures { λ r. ⌜ Puts (now (out .entry)) at (twoDigits n) r (now (out .exit)) ⌝ }
+{
+    out[at] = 48 + (n / 10) as u8;
+    out[at + 1] = 48 + (n % 10) as u8;
+    at + 2
+}
+
+// The digits of a number: one or two, or else those of its hundredth part, and the last two behind them.
 fn digits_at(out: &mut [u8], at: usize, n: u64) -> usize
     requires { ⌜ at + length (decimal n) ≤ length (now out) ⌝ }
     ensures { λ r. ⌜ Puts (now (out .entry)) at (decimal n) r (now (out .exit)) ⌝ }
 {
-    if n < 10 {
-        out[at] = 48 + n as u8;
-        return at + 1;
+    if n < 100 {
+        if n < 10 {
+            out[at] = 48 + n as u8;
+            return at + 1;
+        }
+        return two_at(out, at, n);
     }
-    let next = digits_at(out, at, n / 10);
-    out[next] = 48 + (n % 10) as u8;
-    next + 1
+    let next = digits_at(out, at, n / 100);
+    two_at(out, next, n % 100)
 }
 
 // A number of up to 20 digits.

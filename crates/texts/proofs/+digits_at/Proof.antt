@@ -1,151 +1,99 @@
--- The proof of the cycle of calls {digits_at}. The measure is the number. A number below 10 is its one digit; any other is the
--- digits of its tenth part, which the call of itself writes, and its last digit behind them.
+-- The proof of the cycle of calls {digits_at}. The measure is the number. A number below 10 is its one digit, and one below 100 its
+-- two; any other is the digits of its hundredth part, which the call of itself writes, and its last two digits behind them.
 -- Assumes nothing.
-use mathlib.Core.Path.{sym, ap}
+use mathlib.Core.Path.{refl, ap}
 use Prim.Native.Nat.{ℕ, _<_}
 use native.Mathlib.Omega.{arith}
 use lib.ListN.{length}
-use lib.Seq.{sets}
 use borrow.Author.Needs.{needs}
 use borrow.Fn.Kinds.{In}
 use borrow.Fn.PlainCycle.{Measures, is, falls, and}
-use Rattle.texts.proofs.Decimal.{decimal-small, decimal-more, length-more}
-use Rattle.texts.proofs.Writing.{puts-byte}
+use Rattle.texts.proofs.Decimal.{decimal-small, decimal-two, decimal-hundred, length-hundred}
+use Rattle.texts.proofs.Writing.{puts-behind}
 use Rattle.texts.proofs.digits_at.Reads as digits-at
 use Rattle.texts.proofs.digits_at.Kinds as digits-at-kinds
-use Rattle.texts.proofs.+digits_at.Lts-digits_at as digits-at-lts
+use Rattle.texts.proofs.two_at.Reads as two-at
+use Rattle.texts.proofs.+digits_at.Lts-digits_at as lts
 use Rattle.texts.proofs.+digits_at.{statement}
 use Rattle.texts.proofs.+digits_at.Tie.{close}
 
-abbrev μ-digits-at : Measures 1 digits-at-kinds.ps ℕ
-μ-digits-at κs a = a .1 .1 .0
+abbrev μ : Measures 1 digits-at-kinds.ps ℕ
+μ κs a = a .1 .1 .0
 
-abbrev digits-at-at : ℕ → In 1 digits-at-kinds.ps
-digits-at-at t = and 1 digits-at-kinds.ps (is 1 digits-at-kinds.ps μ-digits-at t) digits-at.Pre
+-- what holds at a number, and what the calls ask and tell
+abbrev at-number : ℕ → In 1 digits-at-kinds.ps
+at-number t = and 1 digits-at-kinds.ps (is 1 digits-at-kinds.ps μ t) digits-at.Pre
 
-abbrev digits-at-below : ℕ → In 1 digits-at-kinds.ps
-digits-at-below t =
-    and 1 digits-at-kinds.ps (falls 1 digits-at-kinds.ps _<_ μ-digits-at t) digits-at.Pre
-
--- there is room for the one digit, and for the last one
-small-room : (t : ℕ) (c : digits-at-lts.Start (digits-at-below t, digits-at.Post) (digits-at-at t) digits-at.Post)
-    → c .args .n < 10 → c .args .at < length (c .args .out .now)
-small-room t c h = omega (arith, ap length (decimal-small (c .args .n) h))
-
-last-room : (t : ℕ) (c : digits-at-lts.After-slice-known2 (digits-at-below t, digits-at.Post) (digits-at-at t) digits-at.Post)
-    → c .before .before .digits-at .result < length (c .before .before .digits-at .last .0)
-last-room t c =
-    let st = c .before .before .before .before .before .before in
-    omega (arith, length-more (st .args .n) (omega arith), c .before .before .digits-at .kept .0, c .before .before .digits-at .ensures .ends)
-
-digits-at-cast-out :
-    (t : ℕ) →
-    digits-at-lts.Need-cast-out
-    (digits-at-below t, digits-at.Post)
-    (digits-at-at t)
-    digits-at.Post
-digits-at-cast-out t c = omega arith
-
-digits-at-add-out :
-    (t : ℕ) →
-    digits-at-lts.Need-add-out (digits-at-below t, digits-at.Post) (digits-at-at t) digits-at.Post
-digits-at-add-out t c = omega arith
-
-digits-at-slice-write-out : (t : ℕ) → digits-at-lts.Need-slice-write-out (
-  digits-at-below t,
+abbrev calls : ℕ → lts.Claims
+calls t = (
+  two-at.Asked,
+  two-at.Learnt,
+  and 1 digits-at-kinds.ps (falls 1 digits-at-kinds.ps _<_ μ t) digits-at.Pre,
   digits-at.Post,
-) (digits-at-at t) digits-at.Post
-digits-at-slice-write-out t c = small-room t (c .before .before) (c .if1 .taken)
+)
 
-digits-at-add-result :
-    (t : ℕ) →
-    digits-at-lts.Need-add-result
-    (digits-at-below t, digits-at.Post)
-    (digits-at-at t)
-    digits-at.Post
-digits-at-add-result t c = omega (arith, small-room t (c .before .before) (c .if1 .taken))
+module _ (t : ℕ) where
+  cast-out : lts.Need-cast-out (calls t) (at-number t) digits-at.Post
+  cast-out c = search needs
 
-digits-at-same-length : (t : ℕ) → digits-at-lts.Need-same-length (
-  digits-at-below t,
-  digits-at.Post,
-) (digits-at-at t) digits-at.Post
-digits-at-same-length t c = search needs
+  add-out : lts.Need-add-out (calls t) (at-number t) digits-at.Post
+  add-out c = search needs
 
-digits-at-returns :
-    (t : ℕ) →
-    digits-at-lts.Need-returns (digits-at-below t, digits-at.Post) (digits-at-at t) digits-at.Post
-digits-at-returns t c =
-    let e = decimal-small (c .before .before .args .n) (c .if1 .taken) in
-    record { ends = omega (arith, ap length e); within = omega (arith, ap length e); holds = ap (sets _ _) (sym e) }
+  slice-write-out : lts.Need-slice-write-out (calls t) (at-number t) digits-at.Post
+  slice-write-out c = omega (arith, ap length (decimal-small (c .before .before .before .args .n) (omega arith)))
 
-digits-at-digits-at-requires : (t : ℕ) → digits-at-lts.Need-digits-at-requires (
-  digits-at-below t,
-  digits-at.Post,
-) (digits-at-at t) digits-at.Post
-digits-at-digits-at-requires t c κs = let st = c .before .before .before in (omega (arith, st .pre .0), omega (arith, length-more (st .args .n) (omega arith)))
+  add-result : lts.Need-add-result (calls t) (at-number t) digits-at.Post
+  add-result c = search needs
 
-digits-at-cast-out-2 :
-    (t : ℕ) →
-    digits-at-lts.Need-cast-out-2
-    (digits-at-below t, digits-at.Post)
-    (digits-at-at t)
-    digits-at.Post
-digits-at-cast-out-2 t c = omega arith
+  same-length : lts.Need-same-length (calls t) (at-number t) digits-at.Post
+  same-length c = search needs
 
-digits-at-add-out-2 :
-    (t : ℕ) →
-    digits-at-lts.Need-add-out-2
-    (digits-at-below t, digits-at.Post)
-    (digits-at-at t)
-    digits-at.Post
-digits-at-add-out-2 t c = omega arith
+  returns : lts.Need-returns (calls t) (at-number t) digits-at.Post
+  returns c =
+      let e = decimal-small (c .before .before .before .args .n) (omega arith) in
+      rw e (record { ends = search needs; within = omega (arith, ap length e); holds = refl })
 
-digits-at-slice-write-out-2 : (t : ℕ) → digits-at-lts.Need-slice-write-out-2 (
-  digits-at-below t,
-  digits-at.Post,
-) (digits-at-at t) digits-at.Post
-digits-at-slice-write-out-2 t c = last-room t c
+  two-at-requires : lts.Need-two-at-requires (calls t) (at-number t) digits-at.Post
+  two-at-requires c κs = (search needs, omega (arith, ap length (decimal-two (c .before .before .before .before .args .n) (omega arith) (omega arith))))
 
-digits-at-add-result-2 : (t : ℕ) → digits-at-lts.Need-add-result-2 (
-  digits-at-below t,
-  digits-at.Post,
-) (digits-at-at t) digits-at.Post
-digits-at-add-result-2 t c = omega (arith, last-room t c)
+  same-length-2 : lts.Need-same-length-2 (calls t) (at-number t) digits-at.Post
+  same-length-2 c = search needs
 
-digits-at-same-length-2 : (t : ℕ) → digits-at-lts.Need-same-length-2 (
-  digits-at-below t,
-  digits-at.Post,
-) (digits-at-at t) digits-at.Post
-digits-at-same-length-2 t c = search needs
+  returns-2 : lts.Need-returns-2 (calls t) (at-number t) digits-at.Post
+  returns-2 c = rw (decimal-two (c .before .before .before .before .before .before .before .args .n) (omega arith) (omega arith)) (c .before .before .two-at .ensures)
 
-digits-at-returns-2 :
-    (t : ℕ) →
-    digits-at-lts.Need-returns-2
-    (digits-at-below t, digits-at.Post)
-    (digits-at-at t)
-    digits-at.Post
-digits-at-returns-2 t c =
-    let st = c .before .before .before .before .before .before in
-    rw (decimal-more (st .args .n) (omega arith)) (puts-byte _ (omega (arith, length-more (st .args .n) (omega arith), c .before .before .digits-at .ensures .ends)) (c .before .before .digits-at .ensures))
+  digits-at-requires : lts.Need-digits-at-requires (calls t) (at-number t) digits-at.Post
+  digits-at-requires c κs = (search needs, omega (arith, length-hundred (c .before .before .before .args .n) (omega arith)))
+
+  two-at-requires-2 : lts.Need-two-at-requires-2 (calls t) (at-number t) digits-at.Post
+  two-at-requires-2 c κs = (search needs, omega (arith, length-hundred (c .before .before .before .before .before .before .before .args .n) (omega arith)))
+
+  same-length-3 : lts.Need-same-length-3 (calls t) (at-number t) digits-at.Post
+  same-length-3 c = search needs
+
+  returns-3 : lts.Need-returns-3 (calls t) (at-number t) digits-at.Post
+  returns-3 c =
+      let d = c .before .before .before .before .before .before in
+      rw (decimal-hundred (d .before .before .before .before .args .n) (omega arith)) (puts-behind (d .digits-at .ensures) (c .before .before .two-at2 .ensures))
 
 pub +digits-at-spec : {M : Type 1} → statement M
 +digits-at-spec =
     close
-    μ-digits-at
-    λ t. digits-at-lts.spec
-    (digits-at-below t, digits-at.Post)
-    (digits-at-at t)
+    μ
+    λ t. lts.spec
+    (calls t)
+    (at-number t)
     digits-at.Post
-    (digits-at-cast-out t)
-    (digits-at-add-out t)
-    (digits-at-slice-write-out t)
-    (digits-at-add-result t)
-    (digits-at-same-length t)
-    (digits-at-returns t)
-    (digits-at-digits-at-requires t)
-    (digits-at-cast-out-2 t)
-    (digits-at-add-out-2 t)
-    (digits-at-slice-write-out-2 t)
-    (digits-at-add-result-2 t)
-    (digits-at-same-length-2 t)
-    (digits-at-returns-2 t)
+    (cast-out t)
+    (add-out t)
+    (slice-write-out t)
+    (add-result t)
+    (same-length t)
+    (returns t)
+    (two-at-requires t)
+    (same-length-2 t)
+    (returns-2 t)
+    (digits-at-requires t)
+    (two-at-requires-2 t)
+    (same-length-3 t)
+    (returns-3 t)

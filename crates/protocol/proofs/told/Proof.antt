@@ -111,7 +111,7 @@ returns-3 c = rw (c .before .before .before .before .before .enum-told3 .given .
 returns-4 : tie.Need-returns-4
 returns-4 c =
     let told = c .before .before .before in
-    rw (told .enum-told4 .given .1) (rw (rest 3 (told .before .before .before .args .numbers .now), c .before .before .period-of .ensures) at (c .trial .ensures))
+    rw (told .enum-told4 .given .1) (rw (rest, c .before .before .period-of .ensures) at (c .trial .ensures))
 
 pub told-spec : {M : Type 1} → statement M
 told-spec =

@@ -1,7 +1,9 @@
 // The calls on a code: PUT, OPEN, CLOSE and DROP.
 // Promise: each answers and leaves what `step` of the book's definitions says, on refused input too; 11 carries the first cell that
 // exceeds, t months and their excess. `act_on` is the one body of the calls that take a code alone: they differ in what they do to one
-// place. OPEN requires document 01's own sentence on the book, `Reachable`; the others require nothing.
+// place. OPEN requires document 01's own sentence on the book, `Reachable`; the others require nothing. A layer that holds a book in a
+// local of its own may settle a place (`settle`, `put_at`) and store it, which copies no book: `act-does` and `put-does` of
+// proofs/Answers.antt say that it has then made the call.
 ghost use mathlib.Core.Path.{_≡_};
 ghost use mathlib.Core.Bool.{true};
 ghost use Rattle.benchmark.specs.Lawful.{Lawful};
@@ -77,7 +79,8 @@ fn drop_at(code: u32, p: Place, loaded: bool, figures: Benchmarks) -> Settled
     book::settled_by(checked, p, nothing)
 }
 
-fn settle(act: CodeAct, code: u32, p: Place, loaded: bool, figures: Benchmarks) -> Settled
+// What one of the three does to a place.
+pub fn settle(act: CodeAct, code: u32, p: Place, loaded: bool, figures: Benchmarks) -> Settled
     requires { ⌜ Judgeable act p loaded figures ⌝ }
     ensures { λ r. ⌜ SettlesOn act code p loaded figures r ⌝ }
 {
@@ -110,7 +113,7 @@ pub fn act_on(b: Book, code: u32, act: CodeAct) -> Done
 }
 
 // PUT (code, tariff). 6, 7, 8. Else the place holds it as a draft, over any draft.
-fn put_at(code: u32, p: Place, x: &[u32]) -> Settled
+pub fn put_at(code: u32, p: Place, x: &[u32]) -> Settled
     ensures { λ r. ⌜ Settles (putChecks code (p .state) (now (x .entry))) accepted p (placeWith State.Draft (tariffOf (now (x .entry)))) r ⌝ }
 {
     let inside = book::code_check(code);

@@ -2,22 +2,21 @@
 -- Assumes nothing.
 use mathlib.Core.Path.{_≡_, refl}
 use Rattle.texts.specs.Texts.{bytesOf, digitsWithin, decimal}
-use Rattle.request.specs.declared.CodeStep.the-variants.{Open}
-use Rattle.request.specs.declared.Step.the-variants.{Set, Put, On}
+use Rattle.request.specs.declared.CodeStep.the-variants.{Put, Open}
 use Rattle.request.specs.declared.Query.the-variants.{Benchmark}
-use Rattle.request.specs.declared.Word.the-variants.{Steps, Tells}
+use Rattle.request.specs.declared.Word.the-variants.{Set, On, Tells}
 use Rattle.request.specs.declared.Request.the-variants.{NotANumber, WrongCount}
 use Rattle.errors.specs.Errors.{problemText}
 
-set : problemText 12 (WrongCount (Steps Set)) ≡ bytesOf "error line 12: set takes at least 3 numbers\n"
+set : problemText 12 (WrongCount Set) ≡ bytesOf "error line 12: set takes at least 3 numbers\n"
 unfolding decimal digitsWithin
 set = refl
 
-put : problemText 12 (WrongCount (Steps Put)) ≡ bytesOf "error line 12: put takes at least 1 number\n"
+put : problemText 12 (WrongCount (On Put)) ≡ bytesOf "error line 12: put takes at least 1 number\n"
 unfolding decimal digitsWithin
 put = refl
 
-one : problemText 12 (WrongCount (Steps (On Open))) ≡ bytesOf "error line 12: open takes 1 number\n"
+one : problemText 12 (WrongCount (On Open)) ≡ bytesOf "error line 12: open takes 1 number\n"
 unfolding decimal digitsWithin
 one = refl
 

@@ -17,19 +17,18 @@ use Rattle.book.proofs.Reached.{does-reachable}
 use Rattle.queries.specs.Queries.{Telling}
 use Rattle.texts.specs.Writing.{Puts}
 use Rattle.lines.specs.Words.{longestLine, withoutReturn}
-use Rattle.request.specs.declared.Step.{Step}
 use Rattle.request.specs.declared.Query.{Query}
 use Rattle.request.specs.declared.Word.{Word}
-use Rattle.request.specs.declared.Word.the-variants.{Steps, Tells}
+use Rattle.request.specs.declared.Word.the-variants.{Tells}
 use Rattle.request.specs.declared.Request.{Request}
 use Rattle.request.specs.declared.Request.the-variants.{Nothing, Asks, Unknown, NotANumber, WrongCount}
 use Rattle.request.proofs.Request.{the-type}
 use Rattle.request.specs.Requests.{requestOf, numbersOf, Ready}
 use Rattle.errors.specs.Errors.{problemText}
 use Rattle.answers.specs.Answers.{answerText, toldText}
-use Rattle.protocol.specs.declared.Said.the-variants.{Answer, Do}
+use Rattle.protocol.specs.declared.Said.the-variants.{Answer}
 use Rattle.protocol.specs.Lines.{toldOf, stepLine, callLine, problemLine, requestLine, longLine, lineAt}
-use Rattle.protocol.specs.Promises.{Answered, Says}
+use Rattle.protocol.specs.Promises.{Answered, ToDo, Says}
 
 -- a request that is no call
 no-call : (b : Book) (l : ℕ) (q : Request) (ns : List ℕ) → OneOf (0 ∷ 2 ∷ 3 ∷ 4 ∷ []) (tagOf the-type q)
@@ -53,10 +52,10 @@ module _ (b : Book) (reach : Reachable b) (l : ℕ) (line numbers : List ℕ) (a
       → requestLine b l (requestOf line) (numbersOf line) ≡ callLine b w (take n numbers)
   line-is q w n asked asks ready = ap (λ x. requestLine b l x (numbersOf line)) (sym asked ∙ asks) ∙ ap (callLine b w) (sym (ready .stand))
 
-  pub says-step : (q : Request) (w : Word) (n : ℕ) (s : Step) → q ≡ requestOf line → q ≡ Asks w n → w ≡ Steps s → Ready w n line numbers → after ≡ before
-      → Says (Do s n) b (requestLine b l (requestOf line) (numbersOf line)) at before after numbers
-  says-step q w n s asked asks steps ready same =
-      (rw steps at (line-is q w n asked asks ready), ready .within, rw steps at (ready .right), same)
+  pub says-to-do : (q : Request) (w v : Word) (n : ℕ) → q ≡ requestOf line → q ≡ Asks w n → w ≡ v → Ready w n line numbers → after ≡ before
+      → ToDo v n b (requestLine b l (requestOf line) (numbersOf line)) before after numbers
+  says-to-do q w v n asked asks is ready same =
+      (rw is at (line-is q w n asked asks ready), ready .within, rw is at (ready .right), same)
 
   pub says-told : (q : Request) (w : Word) (n : ℕ) (t : Query) (told : Telling) (next : ℕ) → q ≡ requestOf line → q ≡ Asks w n → w ≡ Tells t → Ready w n line numbers
       → told ≡ toldOf b t (take n numbers) → Puts before at (toldText told) next after

@@ -12,13 +12,12 @@ use Rattle.book.specs.Book.{step}
 use Rattle.queries.specs.Queries.{Telling, benchmarkOf, maximumOf, quoteOf}
 use Rattle.trial.specs.Trial.{trialOf}
 use Rattle.lines.specs.Words.{longestLine, withoutReturn}
-use Rattle.request.specs.declared.Step.{Step}
-use Rattle.request.specs.declared.CodeStep.the-variants.{Open, Close, Drop}
-use Rattle.request.specs.declared.Step.the-variants.{Set, Put, On}
+use Rattle.request.specs.declared.CodeStep.{CodeStep}
+use Rattle.request.specs.declared.CodeStep.the-variants.{Put, Open, Close, Drop}
 use Rattle.request.specs.declared.Query.{Query}
 use Rattle.request.specs.declared.Query.the-variants.{Benchmark, Maximum, Quote, Trial}
 use Rattle.request.specs.declared.Word.{Word}
-use Rattle.request.specs.declared.Word.the-variants.{Steps, Tells}
+use Rattle.request.specs.declared.Word.the-variants.{Set, On, Tells}
 use Rattle.request.specs.declared.Request.{Request}
 use Rattle.request.specs.declared.Request.the-variants.{Nothing, Asks, Unknown, NotANumber, WrongCount}
 use Rattle.request.specs.Requests.{requestOf, numbersOf}
@@ -32,13 +31,12 @@ periodOf ns = record { year = getD ns 0 0; month = getD ns 1 0; months = getD ns
 abbrev pub givenSheet : List ℕ → Sheet
 givenSheet ns = sheetAt (drop 3 ns) (periodOf ns)
 
--- the step that is asked for with these numbers
-abbrev pub stepOf : Step → List ℕ → Act
-stepOf Set ns = SET (givenSheet ns)
-stepOf Put ns = PUT (getD ns 0 0) (drop 1 ns)
-stepOf (On Open) ns = OPEN (getD ns 0 0)
-stepOf (On Close) ns = CLOSE (getD ns 0 0)
-stepOf (On Drop) ns = DROP (getD ns 0 0)
+-- what a call on a code asks for with these numbers
+abbrev pub onOf : CodeStep → List ℕ → Act
+onOf Put ns = PUT (getD ns 0 0) (drop 1 ns)
+onOf Open ns = OPEN (getD ns 0 0)
+onOf Close ns = CLOSE (getD ns 0 0)
+onOf Drop ns = DROP (getD ns 0 0)
 
 -- what the book tells to these numbers
 abbrev pub toldOf : Book → Query → List ℕ → Telling
@@ -59,7 +57,8 @@ abbrev pub toldLine : Book → Telling → Response
 toldLine b t = record { book = b; text = toldText t }
 
 abbrev pub callLine : Book → Word → List ℕ → Response
-callLine b (Steps s) ns = stepLine b (call (stepOf s ns))
+callLine b Set ns = stepLine b (call (SET (givenSheet ns)))
+callLine b (On s) ns = stepLine b (call (onOf s ns))
 callLine b (Tells q) ns = toldLine b (toldOf b q ns)
 
 -- a line that is no call: "the book is untouched"

@@ -1,18 +1,22 @@
 -- What the functions of this crate promise.
 -- Assumes nothing.
 use mathlib.Core.Path.{_≡_}
+use mathlib.Core.Bool.{Bool, true}
 use mathlib.Core.List.{List}
-use Prim.Native.Nat.{ℕ, _≤_}
-use lib.ListN.{length, take}
+use Prim.Native.Nat.{ℕ, suc, _<_, _≤_}
+use lib.ListN.{length, getD, take}
+use Rattle.benchmark.specs.declared.Benchmarks.{Benchmarks}
+use Rattle.book.specs.declared.Place.{Place}
 use Rattle.book.specs.declared.Book.{Book}
-use Rattle.book.specs.Calls.{call}
-use Rattle.book.specs.Book.{Reachable}
+use Rattle.book.specs.Checks.{inside}
+use Rattle.book.specs.Book.{beyond, Reachable}
 use Rattle.texts.specs.Writing.{Puts}
-use Rattle.request.specs.declared.Word.the-variants.{Steps}
+use Rattle.request.specs.declared.Word.{Word}
+use Rattle.request.specs.declared.Word.the-variants as word
 use Rattle.request.specs.Requests.{arity, RightCount}
 use Rattle.protocol.specs.declared.Said.{Said}
-use Rattle.protocol.specs.declared.Said.the-variants.{Answer, Do}
-use Rattle.protocol.specs.Lines.{stepOf, Response, stepLine}
+use Rattle.protocol.specs.declared.Said.the-variants.{Answer, Set, On}
+use Rattle.protocol.specs.Lines.{Response, callLine}
 
 -- a line was answered as it is meant: the book after it, which is again one that calls leave, and the text of its answer
 pub record Answered (line : Response) (b : Book) (before : List ℕ) (at next : ℕ) (after : List ℕ) : Type 0 where
@@ -20,8 +24,21 @@ pub record Answered (line : Response) (b : Book) (before : List ℕ) (at next : 
   pub reachable : Reachable b
   pub text : Puts before at (line .text) next after
 
--- a line is answered, with the book as it was; or it is a step, which is still to be done with the first n numbers
+-- a line is a call that is still to be done, with the first n numbers; nothing is written yet
+abbrev pub ToDo : Word → (n : ℕ) (b : Book) (line : Response) (before after numbers : List ℕ) → Type 0
+ToDo w n b line before after numbers = (line ≡ callLine b w (take n numbers)) × (n ≤ length numbers) × RightCount (arity w) n × (after ≡ before)
+
+-- a line is answered, with the book as it was; or it is a call that may change it
 abbrev pub Says : Said → (b : Book) (line : Response) (at : ℕ) (before after numbers : List ℕ) → Type 0
 Says (Answer next) b line at before after numbers = Answered line b before at next after
-Says (Do s n) b line at before after numbers =
-    (line ≡ stepLine b (call (stepOf s (take n numbers)))) × (n ≤ length numbers) × RightCount (arity (Steps s)) n × (after ≡ before)
+Says (Set n) b line at before after numbers = ToDo word.Set n b line before after numbers
+Says (On s n) b line at before after numbers = ToDo (word.On s) n b line before after numbers
+
+-- a book that calls leave has place p at index i, which is that of code k, and these figures of a sheet, if one is loaded
+pub record HasPlace (b : Book) (k i : ℕ) (p : Place) (loaded : Bool) (figures : Benchmarks) : Type 0 where
+  pub reachable : Reachable b
+  pub within : i < 32
+  pub index : inside k ≡ true → suc i ≡ k
+  pub place : getD (b .places) i beyond ≡ p
+  pub is-loaded : b .loaded ≡ loaded
+  pub has-figures : b .benchmarks ≡ figures

@@ -1,32 +1,33 @@
-// The protocol of the desk, line by line: what is answered to one line, and the step that it asks for (docs/PROTOCOL.md).
+// The protocol of the desk, line by line: what is answered to one line, and the call that it asks for (docs/PROTOCOL.md).
 // Promise: specs/Lines.antt is the desk's protocol for one line, its answer and the book after it. `say_line` answers every line that
-// leaves the book as it is, and says which step any other asks for; `do_step` does that step and answers it. They require document
-// 01's own sentence on the book, `Reachable`. The step is a call of its own so that the book is handed back only where it may change.
+// leaves the book as it is, and says which call any other asks for; `do_set` and `do_on` do that call and answer it. They require document
+// 01's own sentence on the book, `Reachable`. The calls that may change the book are done apart, so that it is handed back by SET alone; a
+// call on a code takes and returns one place, and the caller stores it in its own book (`HasPlace`).
 ghost use mathlib.Core.Path.{_≡_};
-ghost use mathlib.Core.List.{List};
-ghost use Prim.Native.Nat.{ℕ, _+_, _≤_};
+ghost use Prim.Native.Nat.{ℕ, suc, _+_, _≤_};
 ghost use lib.ListN.{length, getD};
+ghost use Rattle.book.specs.declared.Book.{Book};
 ghost use Rattle.book.specs.Calls.{call};
-ghost use Rattle.book.specs.Book.{Reachable};
+ghost use Rattle.book.specs.Book.{withPlace, Reachable};
 ghost use Rattle.book.specs.Promises.{Does};
+ghost use Rattle.book.specs.Settling.{settledIn};
 ghost use Rattle.queries.specs.Queries.{tellingOf};
-ghost use Rattle.codes.specs.Codes.{actOn};
-ghost use Rattle.request.specs.declared.Step.the-variants.{On};
 ghost use Rattle.request.specs.Requests.{arity, RightCount, requestOf, numbersOf};
-ghost use Rattle.request.specs.declared.Word.the-variants.{Steps, Tells};
+ghost use Rattle.request.specs.declared.Word.the-variants.{Tells};
 ghost use Rattle.answers.specs.Answers.{answerRoom};
-ghost use Rattle.lines.specs.Words.{between, longestLine};
-ghost use Rattle.protocol.specs.Lines.{periodOf, stepOf, toldOf, stepLine, requestLine, lineAt};
-ghost use Rattle.protocol.specs.Promises.{Answered, Says};
+ghost use Rattle.lines.specs.Words.{longestLine, between};
+ghost use Rattle.protocol.specs.Lines.{periodOf, onOf, toldOf, callLine, requestLine, lineAt};
+ghost use Rattle.protocol.specs.Promises.{Answered, Says, HasPlace};
+use benchmark::Benchmarks;
 use book::Book;
-use book::Done;
+use book::Place;
+use book::Settled;
 use calendar::Period;
 use codes::CodeAct;
 use queries::Told;
 use request::CodeStep;
 use request::Query;
 use request::Request;
-use request::Step;
 use request::Word;
 
 // The period of a sheet that is set or tried: year, month and t.
@@ -38,32 +39,6 @@ fn period_of(numbers: &[u32]) -> Period
         year: numbers[0],
         month: numbers[1],
         months: numbers[2],
-    }
-}
-
-// What a call on a code does.
-fn act_of(on: CodeStep) -> CodeAct
-    ensures { λ r. ⌜ ((ns : List ℕ) → actOn r (getD ns 0 0) ≡ stepOf (On on) ns) ⌝ }
-{
-    match on {
-        CodeStep::Open => CodeAct::Open,
-        CodeStep::Close => CodeAct::Close,
-        CodeStep::Drop => CodeAct::Drop,
-    }
-}
-
-// A step with its numbers.
-fn stepped(b: Book, step: Step, numbers: &[u32]) -> Done
-    requires { ⌜ Reachable b × RightCount (arity (Steps step)) (length (now numbers)) ⌝ }
-    ensures { λ r. ⌜ Does b (call (stepOf step (now (numbers .entry)))) r ⌝ }
-{
-    match step {
-        Step::Set => {
-            let period = period_of(numbers);
-            setting::set(b, &numbers[3..], period)
-        }
-        Step::Put => codes::put(b, numbers[0], &numbers[1..]),
-        Step::On(on) => codes::act_on(b, numbers[0], act_of(on)),
     }
 }
 
@@ -83,10 +58,12 @@ fn told(b: Book, query: Query, numbers: &[u32]) -> Told
     }
 }
 
-// A line was answered, up to this place of the output; or it is a step with so many numbers, which is still to be done.
+// A line was answered, up to this place of the output; or it is a call with so many numbers that may change the book, and is still to be
+// done: SET, or a call on a code.
 pub enum Said {
     Answer(usize),
-    Do(Step, usize),
+    Set(usize),
+    On(CodeStep, usize),
 }
 
 // Answers a line, without its line feed and the carriage return before it, unless it may change the book. l is its number.
@@ -99,7 +76,8 @@ fn say(b: Book, line: &[u8], l: u64, numbers: &mut [u32], out: &mut [u8], at: us
         return Said::Answer(errors::put_problem(out, at, l, asked));
     };
     match word {
-        Word::Steps(step) => Said::Do(step, n),
+        Word::Set => Said::Set(n),
+        Word::On(step) => Said::On(step, n),
         Word::Tells(query) => {
             let told = told(b, query, &numbers[..n]);
             Said::Answer(answers::put_told(out, at, told))
@@ -132,23 +110,66 @@ pub fn say_line(
     say(b, &input[from..end], l, numbers, out, at)
 }
 
-// The book after a step, and the place behind its answer.
+// The book after SET, and the place behind its answer.
 pub struct After {
     pub book: Book,
     pub at: usize,
 }
 
-// Does a step, and answers it.
-pub fn do_step(b: Book, step: Step, numbers: &[u32], out: &mut [u8], at: usize) -> After
-    requires { ⌜ Reachable b × RightCount (arity (Steps step)) (length (now numbers)) × (at + answerRoom ≤ length (now out)) ⌝ }
-    ensures { λ r. ⌜ Answered (stepLine b (call (stepOf step (now (numbers .entry))))) (r .book) (now (out .entry)) at (r .at) (now (out .exit)) ⌝ }
+// SET, and its answer.
+pub fn do_set(b: Book, numbers: &[u32], out: &mut [u8], at: usize) -> After
+    requires { ⌜ Reachable b × RightCount (arity Word.Set) (length (now numbers)) × (at + answerRoom ≤ length (now out)) ⌝ }
+    ensures { λ r. ⌜ Answered (callLine b Word.Set (now (numbers .entry))) (r .book) (now (out .entry)) at (r .at) (now (out .exit)) ⌝ }
 {
-    let did = stepped(b, step, numbers);
+    let period = period_of(numbers);
+    let did = setting::set(b, &numbers[3..], period);
     let reply = did.reply;
     let months = did.months;
     let book = did.book;
     After {
         book,
+        at: answers::put_reply(out, at, reply, months),
+    }
+}
+
+// A call on the place of a code, and what it comes to.
+fn settled(step: CodeStep, numbers: &[u32], p: Place, loaded: bool, figures: Benchmarks) -> Settled
+    requires { ⌜ ((b : Book) × (i : ℕ) × HasPlace b (getD (now numbers) 0 0) i p loaded figures) × RightCount (arity (Word.On step)) (length (now numbers)) ⌝ }
+    ensures { λ r. ⌜ ((b : Book) (i : ℕ) → HasPlace b (getD (now (numbers .entry)) 0 0) i p loaded figures → Does b (call (onOf step (now (numbers .entry)))) (settledIn b i r)) ⌝ }
+{
+    match step {
+        CodeStep::Put => codes::put_at(numbers[0], p, &numbers[1..]),
+        CodeStep::Open => codes::settle(CodeAct::Open, numbers[0], p, loaded, figures),
+        CodeStep::Close => codes::settle(CodeAct::Close, numbers[0], p, loaded, figures),
+        CodeStep::Drop => codes::settle(CodeAct::Drop, numbers[0], p, loaded, figures),
+    }
+}
+
+// A place after a call on its code, and the place behind the answer in the output.
+pub struct Placed {
+    pub place: Place,
+    pub at: usize,
+}
+
+// A call on a code, whose place is handed in, and its answer. The place that it returns is to be stored where the one handed in was read.
+pub fn do_on(
+    step: CodeStep,
+    numbers: &[u32],
+    p: Place,
+    loaded: bool,
+    figures: Benchmarks,
+    out: &mut [u8],
+    at: usize,
+) -> Placed
+    requires { ⌜ ((b : Book) × (i : ℕ) × HasPlace b (getD (now numbers) 0 0) i p loaded figures) × RightCount (arity (Word.On step)) (length (now numbers)) × (at + answerRoom ≤ length (now out)) ⌝ }
+    ensures { λ r. ⌜ ((b : Book) (i : ℕ) → HasPlace b (getD (now (numbers .entry)) 0 0) i p loaded figures → Answered (callLine b (Word.On step) (now (numbers .entry))) (withPlace b (suc i) (r .place)) (now (out .entry)) at (r .at) (now (out .exit))) ⌝ }
+{
+    let done = settled(step, numbers, p, loaded, figures);
+    let reply = done.reply;
+    let months = done.months;
+    let place = done.place;
+    Placed {
+        place,
         at: answers::put_reply(out, at, reply, months),
     }
 }

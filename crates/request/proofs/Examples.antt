@@ -5,10 +5,9 @@ use mathlib.Core.List.{[], _∷_}
 use Rattle.texts.specs.Texts.{bytesOf}
 use Rattle.lines.specs.Words.{parts, notEmpty, words}
 use Rattle.lines.specs.Numerals.{digits, valueAfter, value, numbersIn}
-use Rattle.request.specs.declared.CodeStep.the-variants.{Open, Close, Drop}
-use Rattle.request.specs.declared.Step.the-variants.{Set, Put, On}
+use Rattle.request.specs.declared.CodeStep.the-variants.{Put, Open, Close, Drop}
 use Rattle.request.specs.declared.Query.the-variants.{Benchmark, Maximum, Quote, Trial}
-use Rattle.request.specs.declared.Word.the-variants.{Steps, Tells}
+use Rattle.request.specs.declared.Word.the-variants.{Set, On, Tells}
 use Rattle.request.specs.declared.Request.the-variants.{Nothing, Asks, Unknown, NotANumber, WrongCount}
 use Rattle.request.specs.Requests.{same, named, requestOf, numbersOf}
 
@@ -21,7 +20,7 @@ unfolding requestOf words parts notEmpty
 comment = refl
 
 -- spaces before, between and behind the words, and leading zeros
-spaced : requestOf (bytesOf "  set  2024 04 3 ") ≡ Asks (Steps Set) 3
+spaced : requestOf (bytesOf "  set  2024 04 3 ") ≡ Asks Set 3
 unfolding requestOf words parts notEmpty same named numbersIn digits valueAfter value
 spaced = refl
 
@@ -29,7 +28,7 @@ spaced-numbers : numbersOf (bytesOf "  set  2024 04 3 ") ≡ 2024 ∷ 4 ∷ 3 �
 unfolding numbersOf words parts notEmpty valueAfter value
 spaced-numbers = refl
 
-greatest : requestOf (bytesOf "put 004294967295") ≡ Asks (Steps Put) 1
+greatest : requestOf (bytesOf "put 004294967295") ≡ Asks (On Put) 1
 unfolding requestOf words parts notEmpty same named numbersIn digits valueAfter value
 greatest = refl
 
@@ -46,15 +45,15 @@ signed : requestOf (bytesOf "open -1 2") ≡ NotANumber 2
 unfolding requestOf words parts notEmpty same named numbersIn digits valueAfter value
 signed = refl
 
-two : requestOf (bytesOf "open 1 2") ≡ WrongCount (Steps (On Open))
+two : requestOf (bytesOf "open 1 2") ≡ WrongCount (On Open)
 unfolding requestOf words parts notEmpty same named numbersIn digits valueAfter value
 two = refl
 
-closed : requestOf (bytesOf "close 1") ≡ Asks (Steps (On Close)) 1
+closed : requestOf (bytesOf "close 1") ≡ Asks (On Close) 1
 unfolding requestOf words parts notEmpty same named numbersIn digits valueAfter value
 closed = refl
 
-dropped : requestOf (bytesOf "drop 1") ≡ Asks (Steps (On Drop)) 1
+dropped : requestOf (bytesOf "drop 1") ≡ Asks (On Drop) 1
 unfolding requestOf words parts notEmpty same named numbersIn digits valueAfter value
 dropped = refl
 

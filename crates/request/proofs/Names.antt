@@ -9,11 +9,10 @@ use lib.Dec.{eqb}
 use lib.ListN.{length, getD}
 use borrow.Author.Tests.{eqb-true}
 use Rattle.laws.proofs.Every.{and-left, and-right}
-use Rattle.request.specs.declared.CodeStep.the-variants.{Open, Close, Drop}
-use Rattle.request.specs.declared.Step.the-variants.{Set, Put, On}
+use Rattle.request.specs.declared.CodeStep.the-variants.{Put, Open, Close, Drop}
 use Rattle.request.specs.declared.Query.the-variants.{Benchmark, Maximum, Quote, Trial}
 use Rattle.request.specs.declared.Word.{Word}
-use Rattle.request.specs.declared.Word.the-variants.{Steps, Tells}
+use Rattle.request.specs.declared.Word.the-variants.{Set, On, Tells}
 use Rattle.request.specs.declared.Named.{Named}
 use Rattle.request.specs.declared.Named.the-variants.{By, None}
 use Rattle.request.specs.Requests.{calls, nameOf, same, named}
@@ -31,11 +30,11 @@ equal (x ∷ xs) (y ∷ ys) e =
 -- each call is named by its own name
 named-by : (c : Word) → named calls (nameOf c) ≡ By c
 unfolding named same
-named-by (Steps Set) = refl
-named-by (Steps Put) = refl
-named-by (Steps (On Open)) = refl
-named-by (Steps (On Close)) = refl
-named-by (Steps (On Drop)) = refl
+named-by Set = refl
+named-by (On Put) = refl
+named-by (On Open) = refl
+named-by (On Close) = refl
+named-by (On Drop) = refl
 named-by (Tells Benchmark) = refl
 named-by (Tells Maximum) = refl
 named-by (Tells Quote) = refl
@@ -58,17 +57,17 @@ none-named (c ∷ cs) w h = skip w c (named cs w) (h c) ∙ none-named cs w h
 abbrev callBy : ℕ → Word
 callBy n =
     cond (eqb n 98) (Tells Benchmark)
-    (cond (eqb n 99) (Steps (On Close))
-    (cond (eqb n 100) (Steps (On Drop))
+    (cond (eqb n 99) (On Close)
+    (cond (eqb n 100) (On Drop)
     (cond (eqb n 109) (Tells Maximum)
-    (cond (eqb n 111) (Steps (On Open)) (cond (eqb n 112) (Steps Put) (cond (eqb n 113) (Tells Quote) (cond (eqb n 115) (Steps Set) (Tells Trial))))))))
+    (cond (eqb n 111) (On Open) (cond (eqb n 112) (On Put) (cond (eqb n 113) (Tells Quote) (cond (eqb n 115) Set (Tells Trial))))))))
 
 by-first : (c : Word) → c ≡ callBy (getD (nameOf c) 0 0)
-by-first (Steps Set) = refl
-by-first (Steps Put) = refl
-by-first (Steps (On Open)) = refl
-by-first (Steps (On Close)) = refl
-by-first (Steps (On Drop)) = refl
+by-first Set = refl
+by-first (On Put) = refl
+by-first (On Open) = refl
+by-first (On Close) = refl
+by-first (On Drop) = refl
 by-first (Tells Benchmark) = refl
 by-first (Tells Maximum) = refl
 by-first (Tells Quote) = refl
@@ -80,11 +79,11 @@ first-alone c d e = by-first c ∙ ap callBy e ∙ sym (by-first d)
 -- a byte that is none of the first eight leaves one call
 pub last-call : (n : ℕ) → (n ≡ 98 → ⊥) → (n ≡ 99 → ⊥) → (n ≡ 100 → ⊥) → (n ≡ 109 → ⊥) → (n ≡ 111 → ⊥) → (n ≡ 112 → ⊥) → (n ≡ 113 → ⊥) → (n ≡ 115 → ⊥)
     → (c : Word) → getD (nameOf c) 0 0 ≡ n → c ≡ Tells Trial
-last-call n b k d m o p q s (Steps Set) e = absurd (s (sym e))
-last-call n b k d m o p q s (Steps Put) e = absurd (p (sym e))
-last-call n b k d m o p q s (Steps (On Open)) e = absurd (o (sym e))
-last-call n b k d m o p q s (Steps (On Close)) e = absurd (k (sym e))
-last-call n b k d m o p q s (Steps (On Drop)) e = absurd (d (sym e))
+last-call n b k d m o p q s Set e = absurd (s (sym e))
+last-call n b k d m o p q s (On Put) e = absurd (p (sym e))
+last-call n b k d m o p q s (On Open) e = absurd (o (sym e))
+last-call n b k d m o p q s (On Close) e = absurd (k (sym e))
+last-call n b k d m o p q s (On Drop) e = absurd (d (sym e))
 last-call n b k d m o p q s (Tells Benchmark) e = absurd (b (sym e))
 last-call n b k d m o p q s (Tells Maximum) e = absurd (m (sym e))
 last-call n b k d m o p q s (Tells Quote) e = absurd (q (sym e))

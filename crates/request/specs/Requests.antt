@@ -11,11 +11,10 @@ use Rattle.lines.specs.declared.Numbers.{Numbers}
 use Rattle.lines.specs.declared.Numbers.the-variants.{All, Bad}
 use Rattle.lines.specs.Words.{words}
 use Rattle.lines.specs.Numerals.{value, numbersIn}
-use Rattle.request.specs.declared.CodeStep.the-variants.{Open, Close, Drop}
-use Rattle.request.specs.declared.Step.the-variants.{Set, Put, On}
+use Rattle.request.specs.declared.CodeStep.the-variants.{Put, Open, Close, Drop}
 use Rattle.request.specs.declared.Query.the-variants.{Benchmark, Maximum, Quote, Trial}
 use Rattle.request.specs.declared.Word.{Word}
-use Rattle.request.specs.declared.Word.the-variants.{Steps, Tells}
+use Rattle.request.specs.declared.Word.the-variants.{Set, On, Tells}
 use Rattle.request.specs.declared.Arity.{Arity}
 use Rattle.request.specs.declared.Arity.the-variants.{Exactly, AtLeast}
 use Rattle.request.specs.declared.Form.{Form}
@@ -24,16 +23,16 @@ use Rattle.request.specs.declared.Named.the-variants.{By, None}
 use Rattle.request.specs.declared.Request.{Request}
 use Rattle.request.specs.declared.Request.the-variants.{Nothing, Asks, Unknown, NotANumber, WrongCount}
 
--- the nine calls: five steps of the book, and four that it tells of
+-- the nine calls: SET, four on a code, and four that tell of the book
 abbrev pub calls : List Word
-calls = Steps Set ∷ Steps Put ∷ Steps (On Open) ∷ Steps (On Close) ∷ Steps (On Drop) ∷ Tells Benchmark ∷ Tells Maximum ∷ Tells Quote ∷ Tells Trial ∷ []
+calls = Set ∷ On Put ∷ On Open ∷ On Close ∷ On Drop ∷ Tells Benchmark ∷ Tells Maximum ∷ Tells Quote ∷ Tells Trial ∷ []
 
 abbrev pub nameOf : Word → List ℕ
-nameOf (Steps Set) = bytesOf "set"
-nameOf (Steps Put) = bytesOf "put"
-nameOf (Steps (On Open)) = bytesOf "open"
-nameOf (Steps (On Close)) = bytesOf "close"
-nameOf (Steps (On Drop)) = bytesOf "drop"
+nameOf Set = bytesOf "set"
+nameOf (On Put) = bytesOf "put"
+nameOf (On Open) = bytesOf "open"
+nameOf (On Close) = bytesOf "close"
+nameOf (On Drop) = bytesOf "drop"
 nameOf (Tells Benchmark) = bytesOf "benchmark"
 nameOf (Tells Maximum) = bytesOf "maximum"
 nameOf (Tells Quote) = bytesOf "quote"
@@ -41,9 +40,11 @@ nameOf (Tells Trial) = bytesOf "trial"
 
 -- how many numbers a call takes
 abbrev pub arity : Word → Arity
-arity (Steps Set) = AtLeast 3
-arity (Steps Put) = AtLeast 1
-arity (Steps (On step)) = Exactly 1
+arity Set = AtLeast 3
+arity (On Put) = AtLeast 1
+arity (On Open) = Exactly 1
+arity (On Close) = Exactly 1
+arity (On Drop) = Exactly 1
 arity (Tells Benchmark) = Exactly 4
 arity (Tells Maximum) = Exactly 4
 arity (Tells Quote) = AtLeast 3

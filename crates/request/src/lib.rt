@@ -9,21 +9,15 @@ ghost use Rattle.request.specs.declared.Word.{Word};
 ghost use Rattle.request.specs.Requests.{calls, nameOf, arity, rightCount, FormOf, named, requestOf, Standing};
 use lines::Numbers;
 
-// The calls on a code alone.
+// The calls that may change the place of a code.
 pub enum CodeStep {
+    Put,
     Open,
     Close,
     Drop,
 }
 
-// The calls that may change the book.
-pub enum Step {
-    Set,
-    Put,
-    On(CodeStep),
-}
-
-// The calls that tell of it.
+// The calls that tell of the book.
 pub enum Query {
     Benchmark,
     Maximum,
@@ -31,9 +25,10 @@ pub enum Query {
     Trial,
 }
 
-// A call's own word.
+// A call's own word: SET, a call on a code, or one that tells.
 pub enum Word {
-    Steps(Step),
+    Set,
+    On(CodeStep),
     Tells(Query),
 }
 
@@ -80,14 +75,12 @@ pub fn form_of(word: Word) -> Form
     ensures { λ r. ⌜ FormOf (nameOf word) (arity word) r ⌝ }
 {
     match word {
-        Word::Steps(step) => match step {
-            Step::Set => formed(*b"set      ", 3, Arity::AtLeast(3)),
-            Step::Put => formed(*b"put      ", 3, Arity::AtLeast(1)),
-            Step::On(on) => match on {
-                CodeStep::Open => formed(*b"open     ", 4, Arity::Exactly(1)),
-                CodeStep::Close => formed(*b"close    ", 5, Arity::Exactly(1)),
-                CodeStep::Drop => formed(*b"drop     ", 4, Arity::Exactly(1)),
-            },
+        Word::Set => formed(*b"set      ", 3, Arity::AtLeast(3)),
+        Word::On(step) => match step {
+            CodeStep::Put => formed(*b"put      ", 3, Arity::AtLeast(1)),
+            CodeStep::Open => formed(*b"open     ", 4, Arity::Exactly(1)),
+            CodeStep::Close => formed(*b"close    ", 5, Arity::Exactly(1)),
+            CodeStep::Drop => formed(*b"drop     ", 4, Arity::Exactly(1)),
         },
         Word::Tells(query) => match query {
             Query::Benchmark => formed(*b"benchmark", 9, Arity::Exactly(4)),
@@ -104,13 +97,13 @@ fn beginning(first: u8) -> Word
 {
     match first {
         b'b' => Word::Tells(Query::Benchmark),
-        b'c' => Word::Steps(Step::On(CodeStep::Close)),
-        b'd' => Word::Steps(Step::On(CodeStep::Drop)),
+        b'c' => Word::On(CodeStep::Close),
+        b'd' => Word::On(CodeStep::Drop),
         b'm' => Word::Tells(Query::Maximum),
-        b'o' => Word::Steps(Step::On(CodeStep::Open)),
-        b'p' => Word::Steps(Step::Put),
+        b'o' => Word::On(CodeStep::Open),
+        b'p' => Word::On(CodeStep::Put),
         b'q' => Word::Tells(Query::Quote),
-        b's' => Word::Steps(Step::Set),
+        b's' => Word::Set,
         _ => Word::Tells(Query::Trial),
     }
 }

@@ -14,12 +14,18 @@ use Rattle.laws.proofs.Every.{and-left, and-right}
 use Rattle.laws.proofs.Never.{never}
 use Rattle.bytes.specs.Bytes.{indexOf, indexAfter}
 use Rattle.book.specs.declared.Book.{Book}
-use Rattle.book.specs.Book.{Reachable}
+use Rattle.book.specs.Checks.{inside}
+use Rattle.book.specs.Book.{beyond, Reachable}
 use Rattle.texts.specs.Writing.{Puts}
 use Rattle.answers.specs.Answers.{answerRoom}
 use Rattle.texts.proofs.Writing.{puts-behind, puts-none}
 use Rattle.lines.specs.Words.{between}
+use Rattle.request.specs.declared.CodeStep.{CodeStep}
+use Rattle.request.specs.declared.CodeStep.the-variants.{Put, Open, Close, Drop}
+use Rattle.request.specs.declared.Word.the-variants.{On}
+use Rattle.request.specs.Requests.{arity, RightCount}
 use Rattle.protocol.specs.Lines.{lineAt}
+use Rattle.protocol.specs.Promises.{HasPlace}
 use Rattle.lines.proofs.Parts.{length-between}
 use Rattle.input.specs.declared.Input.{Input}
 use Rattle.input.proofs.Between.{between-split, between-one, between-none}
@@ -96,6 +102,27 @@ line-more xs start from to end h k l e =
 pub room-yes : (at size l : ℕ) → hasRoom at size l ≡ true → (at + answerRoom ≤ size) × (l + 1 < 2 ^ 64)
 room-yes at size l e =
     (leb-true (at + answerRoom) size (and-left _ (ltb (l + 1) (2 ^ 64)) e), ltb-true (l + 1) (2 ^ 64) (and-right (leb (at + answerRoom) size) _ e))
+
+-- a call on a code has a number at least, the code, and is made on the place at its index
+pub some-number : (s : CodeStep) (n : ℕ) → RightCount (arity (On s)) n → 1 ≤ n
+some-number Put n h = h
+some-number Open n h = omega arith
+some-number Close n h = omega arith
+some-number Drop n h = omega arith
+
+pub has-place : (b : Book) (numbers : List ℕ) (n i : ℕ) → Reachable b → 1 ≤ n
+    → (i < 32) × (inside (getD numbers 0 0) ≡ true → suc i ≡ getD numbers 0 0)
+    → HasPlace b (getD (take n numbers) 0 0) i (getD (b .places) i beyond) (b .loaded) (b .benchmarks)
+has-place b numbers n i r m h =
+    let same = getD-take n numbers 0 0 (omega arith) in
+    record {
+      reachable = r;
+      within = h .0;
+      index = subst (λ k. inside k ≡ true → suc i ≡ k) (sym same) (h .1);
+      place = refl;
+      is-loaded = refl;
+      has-figures = refl;
+    }
 
 -- what the loop of `take_lines` has done so far
 pub record Sofar (b : Book) (lines : ℕ) (i : Input) (input before after : List ℕ) (book : Book) (from : ℕ) (cut : Bool) (l at end : ℕ) : Type 0 where

@@ -34,7 +34,8 @@ fn room(at: usize, size: usize, l: u64) -> bool
     l < u64::MAX
 }
 
-// Takes whole lines, as long as there is room for their answers.
+// Takes whole lines, as long as there is room for their answers. A call on a code changes one place of the book that stands here, so that
+// the book is copied for SET alone.
 pub fn take_lines(
     b: Book,
     lines: u64,
@@ -60,11 +61,20 @@ pub fn take_lines(
             Said::Answer(next) => {
                 at = next;
             }
-            Said::Do(step, n) => {
-                let after = protocol::do_step(book, step, &numbers[..n], out, at);
+            Said::Set(n) => {
+                let after = protocol::do_set(book, &numbers[..n], out, at);
                 at = after.at;
                 let next = after.book;
                 book = next;
+            }
+            Said::On(step, n) => {
+                let index = book::index_of(numbers[0]);
+                let p = book.places[index];
+                let figures = book.benchmarks;
+                let after = protocol::do_on(step, &numbers[..n], p, book.loaded, figures, out, at);
+                at = after.at;
+                let place = after.place;
+                book.places[index] = place;
             }
         }
         cut = false;

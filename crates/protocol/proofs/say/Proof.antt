@@ -1,10 +1,10 @@
--- `protocol::say` meets its contract: a problem, a step or a query, by the request and its word.
+-- `protocol::say` meets its contract: a problem, a call to do or a query, by the request and its word.
 -- Assumes nothing.
 use mathlib.Core.Path.{refl, sym}
 use lib.Seq.{length-take-le}
 use borrow.Author.Needs.{needs}
 use Rattle.request.specs.Requests.{Ready}
-use Rattle.protocol.proofs.Lines.{says-problem, says-step, says-told}
+use Rattle.protocol.proofs.Lines.{says-problem, says-to-do, says-told}
 use Rattle.protocol.proofs.say.Statement.{statement}
 use Rattle.protocol.proofs.say.Tie as tie
 
@@ -30,6 +30,9 @@ same-length-2 c = search needs
 returns : tie.Need-returns
 returns c = says-problem _ (c .before .before .before .before .before .before .before .before .before .before .before .before .pre .0) _ _ (c .before .before .before .before .before .before .before .request-of .last .1 .0) _ _ _ (c .before .before .before .before .before .before .before .request-of .result) _ (c .before .before .before .before .before .before .before .request-of .ensures .0) (c .before .before .before .before .match .keys2) (c .before .before .put-problem .ensures)
 
+enum-told : tie.Need-enum-told
+enum-told c = search needs
+
 enum-known-word : tie.Need-enum-known-word
 enum-known-word c = search needs
 
@@ -54,16 +57,22 @@ same-length-3 : tie.Need-same-length-3
 same-length-3 c = search needs
 
 returns-2 : tie.Need-returns-2
-returns-2 c = says-step _ (c .before .before .before .before .before .before .before .before .before .before .before .before .before .pre .0) _ _ _ (c .before .before .before .before .before .before .before .before .before .before .before .before .before .args .at) _ _ _ _ _ _ (c .before .before .before .before .before .before .before .before .request-of .ensures .0) (c .before .before .before .before .asked .given .1) (c .before .word .given .1) (ready (c .before .before .before)) refl
+returns-2 c = says-to-do _ (c .before .before .before .before .before .before .before .before .before .before .before .before .pre .0) _ _ _ (c .before .before .before .before .before .before .before .before .before .before .before .before .args .at) _ _ _ _ _ _ (c .before .before .before .before .before .before .before .request-of .ensures .0) (c .before .before .before .asked .given .1) (c .enum-told .given .1) (ready (c .before .before)) refl
 
 same-length-4 : tie.Need-same-length-4
 same-length-4 c = search needs
 
+returns-3 : tie.Need-returns-3
+returns-3 c = says-to-do _ (c .before .before .before .before .before .before .before .before .before .before .before .before .before .pre .0) _ _ _ (c .before .before .before .before .before .before .before .before .before .before .before .before .before .args .at) _ _ _ _ _ _ (c .before .before .before .before .before .before .before .before .request-of .ensures .0) (c .before .before .before .before .asked .given .1) (c .before .word .given .1) (ready (c .before .before .before)) refl
+
 same-length-5 : tie.Need-same-length-5
 same-length-5 c = search needs
 
-returns-3 : tie.Need-returns-3
-returns-3 c = says-told _ (c .before .before .before .before .before .before .before .before .before .before .before .before .before .before .before .before .before .before .before .pre .0) _ _ _ _ _ _ _ _ _ _ _ _ (c .before .before .before .before .before .before .before .before .before .before .before .before .before .before .request-of .ensures .0) (c .before .before .before .before .before .before .before .before .before .before .asked .given .1) (c .before .before .before .before .before .before .before .word2 .given .1) (ready (c .before .before .before .before .before .before .before .before .before)) (c .before .before .before .before .told .ensures) (c .before .before .put-told .ensures)
+same-length-6 : tie.Need-same-length-6
+same-length-6 c = search needs
+
+returns-4 : tie.Need-returns-4
+returns-4 c = says-told _ (c .before .before .before .before .before .before .before .before .before .before .before .before .before .before .before .before .before .before .before .pre .0) _ _ _ _ _ _ _ _ _ _ _ _ (c .before .before .before .before .before .before .before .before .before .before .before .before .before .before .request-of .ensures .0) (c .before .before .before .before .before .before .before .before .before .before .asked .given .1) (c .before .before .before .before .before .before .before .word2 .given .1) (ready (c .before .before .before .before .before .before .before .before .before)) (c .before .before .before .before .told .ensures) (c .before .before .put-told .ensures)
 
 pub say-spec : {M : Type 1} → statement M
 say-spec =
@@ -75,6 +84,7 @@ say-spec =
     same-length
     same-length-2
     returns
+    enum-told
     enum-known-word
     enum-known-word-2
     slice-reshare-prefix-told
@@ -84,5 +94,7 @@ say-spec =
     same-length-3
     returns-2
     same-length-4
+    returns-3
     same-length-5
-    returns-3)
+    same-length-6
+    returns-4)

@@ -1,10 +1,9 @@
 -- `request::beginning` meets its contract, byte by byte.
 -- Assumes nothing.
 use mathlib.Core.Path.{_∙_}
-use Rattle.request.specs.declared.CodeStep.the-variants.{Open, Close, Drop}
-use Rattle.request.specs.declared.Step.the-variants.{Set, Put, On}
+use Rattle.request.specs.declared.CodeStep.the-variants.{Put, Open, Close, Drop}
 use Rattle.request.specs.declared.Query.the-variants.{Benchmark, Maximum, Quote}
-use Rattle.request.specs.declared.Word.the-variants.{Steps, Tells}
+use Rattle.request.specs.declared.Word.the-variants.{Set, On, Tells}
 use Rattle.request.proofs.Names.{first-alone, last-call}
 use Rattle.request.proofs.beginning.Statement.{statement}
 use Rattle.request.proofs.beginning.Tie as tie
@@ -13,25 +12,25 @@ returns : tie.Need-returns
 returns c w e = first-alone w (Tells Benchmark) (e ∙ c .match .keys1)
 
 returns-2 : tie.Need-returns-2
-returns-2 c w e = first-alone w (Steps (On Close)) (e ∙ c .match .keys2)
+returns-2 c w e = first-alone w (On Close) (e ∙ c .match .keys2)
 
 returns-3 : tie.Need-returns-3
-returns-3 c w e = first-alone w (Steps (On Drop)) (e ∙ c .match .keys3)
+returns-3 c w e = first-alone w (On Drop) (e ∙ c .match .keys3)
 
 returns-4 : tie.Need-returns-4
 returns-4 c w e = first-alone w (Tells Maximum) (e ∙ c .match .keys4)
 
 returns-5 : tie.Need-returns-5
-returns-5 c w e = first-alone w (Steps (On Open)) (e ∙ c .match .keys5)
+returns-5 c w e = first-alone w (On Open) (e ∙ c .match .keys5)
 
 returns-6 : tie.Need-returns-6
-returns-6 c w e = first-alone w (Steps Put) (e ∙ c .match .keys6)
+returns-6 c w e = first-alone w (On Put) (e ∙ c .match .keys6)
 
 returns-7 : tie.Need-returns-7
 returns-7 c w e = first-alone w (Tells Quote) (e ∙ c .match .keys7)
 
 returns-8 : tie.Need-returns-8
-returns-8 c w e = first-alone w (Steps Set) (e ∙ c .match .keys8)
+returns-8 c w e = first-alone w Set (e ∙ c .match .keys8)
 
 returns-9 : tie.Need-returns-9
 returns-9 c w e =

@@ -4,23 +4,20 @@ use borrow.Author.Needs.{needs}
 use Rattle.request.proofs.form_of.Statement.{statement}
 use Rattle.request.proofs.form_of.Tie as tie
 
-enum-known-word : tie.Need-enum-known-word
-enum-known-word c = search needs
-
 enum-told : tie.Need-enum-told
 enum-told c = search needs
 
 formed-requires : tie.Need-formed-requires
 formed-requires c κs = search needs
 
+enum-known-word : tie.Need-enum-known-word
+enum-known-word c = search needs
+
 enum-told-2 : tie.Need-enum-told-2
 enum-told-2 c = search needs
 
 formed-requires-2 : tie.Need-formed-requires-2
 formed-requires-2 c κs = search needs
-
-enum-known-step : tie.Need-enum-known-step
-enum-known-step c = search needs
 
 enum-told-3 : tie.Need-enum-told-3
 enum-told-3 c = search needs
@@ -68,25 +65,19 @@ formed-requires-9 : tie.Need-formed-requires-9
 formed-requires-9 c κs = search needs
 
 returns : tie.Need-returns
-returns c = rw (c .before .before .before .before .before .before .word .given .1, c .before .before .before .enum-told .given .1) (c .formed .ensures)
+returns c = rw (c .before .before .before .enum-told .given .1) (c .formed .ensures)
 
 returns-2 : tie.Need-returns-2
 returns-2 c = rw (c .before .before .before .before .before .before .word .given .1, c .before .before .before .enum-told2 .given .1) (c .formed2 .ensures)
 
 returns-3 : tie.Need-returns-3
-returns-3 c =
-    let s = c .before .before .before .before .before .before in
-    rw (s .before .before .before .word .given .1, s .step .given .1, c .before .before .before .enum-told3 .given .1) (c .formed3 .ensures)
+returns-3 c = rw (c .before .before .before .before .before .before .word .given .1, c .before .before .before .enum-told3 .given .1) (c .formed3 .ensures)
 
 returns-4 : tie.Need-returns-4
-returns-4 c =
-    let s = c .before .before .before .before .before .before in
-    rw (s .before .before .before .word .given .1, s .step .given .1, c .before .before .before .enum-told4 .given .1) (c .formed4 .ensures)
+returns-4 c = rw (c .before .before .before .before .before .before .word .given .1, c .before .before .before .enum-told4 .given .1) (c .formed4 .ensures)
 
 returns-5 : tie.Need-returns-5
-returns-5 c =
-    let s = c .before .before .before .before .before .before in
-    rw (s .before .before .before .word .given .1, s .step .given .1, c .before .before .before .enum-told5 .given .1) (c .formed5 .ensures)
+returns-5 c = rw (c .before .before .before .before .before .before .word .given .1, c .before .before .before .enum-told5 .given .1) (c .formed5 .ensures)
 
 returns-6 : tie.Need-returns-6
 returns-6 c = rw (c .before .before .before .before .before .before .word2 .given .1, c .before .before .before .enum-told6 .given .1) (c .formed6 .ensures)
@@ -104,12 +95,11 @@ pub form-of-spec : {M : Type 1} → statement M
 form-of-spec =
     tie.close
     (tie.spec
-    enum-known-word
     enum-told
     formed-requires
+    enum-known-word
     enum-told-2
     formed-requires-2
-    enum-known-step
     enum-told-3
     formed-requires-3
     enum-told-4

@@ -2,20 +2,27 @@
 -- Assumes nothing.
 use mathlib.Core.Path.{_≡_, refl, sym, _∙_, ap}
 use mathlib.Core.Bool.{true}
+use mathlib.Core.List.{List}
 use mathlib.Core.Logic.{⊎-elim}
-use Prim.Native.Nat.{_+_, _-_, _^_, _≤_, _<_}
+use Prim.Native.Nat.{ℕ, suc, _+_, _-_, _^_, _≤_, _<_}
 use native.Mathlib.Omega.{arith}
-use lib.ListN.{length}
+use lib.ListN.{length, getD, take}
 use lib.Seq.{length-take-le}
+use borrow.Author.Needs.{needs}
 use borrow.Author.Tests.{ltb-true}
+use Rattle.book.specs.Checks.{inside}
+use Rattle.book.specs.Book.{beyond}
 use Rattle.texts.proofs.Writing.{puts-size}
 use Rattle.answers.specs.Answers.{answerRoom}
-use Rattle.protocol.specs.declared.Said.the-variants.{Do}
 use Rattle.lines.specs.Words.{between}
+use Rattle.request.specs.declared.CodeStep.{CodeStep}
+use Rattle.request.specs.declared.Word.{Word}
+use Rattle.request.specs.declared.Word.the-variants as word
+use Rattle.protocol.specs.declared.Said.the-variants as said
 use Rattle.protocol.specs.Lines.{Response, lineAt}
-use Rattle.protocol.specs.Promises.{Answered, Says}
+use Rattle.protocol.specs.Promises.{Answered, ToDo, HasPlace}
 use Rattle.taking.specs.Taking.{hasRoom}
-use Rattle.taking.proofs.Taking.{feed-left, room-yes, Sofar, sofar-none, sofar-more}
+use Rattle.taking.proofs.Taking.{feed-left, room-yes, some-number, has-place, Sofar, sofar-none, sofar-more}
 use Rattle.taking.proofs.take_lines.Statement.{statement}
 use Rattle.taking.proofs.take_lines.Tie as tie
 
@@ -26,27 +33,49 @@ Inv-loop lines i input numbers₀ out₀ to book₀ from₀ cut₀ l₀ at₀ en
 abbrev μ-loop : tie.MeasureT-loop
 μ-loop lines i input numbers₀ out₀ to book₀ from₀ cut₀ l₀ at₀ end₀ numbers out book from cut l at end = i .to - from
 
--- a step that a turn's line asks for
-asked : (c : tie.After-known-told2 Inv-loop μ-loop)
-    → Says (Do (c .before .said2 .given .0 .0) (c .before .said2 .given .0 .1 .0)) (c .before .before .before .before .before .before .before .before .before .before .before .before .before .loop .book) (lineAt (c .before .before .before .before .before .before .before .before .before .before .before .before .before .loop .book) (c .before .before .before .before .before .before .before .before .before .before .before .before .before .loop .l + 1) (c .before .before .before .before .before .before .before .before .before .before .before .before .before .loop .cut) (between (c .before .before .before .before .before .before .before .before .before .before .before .before .before .before .before .before .before .before .args .input .now) (c .before .before .before .before .before .before .before .before .before .before .before .before .before .loop .from) (c .before .before .before .before .before .before .before .before .before .before .before .before .before .loop .end))) (c .before .before .before .before .before .before .before .before .before .before .before .before .before .loop .at) (c .before .before .before .before .before .before .before .before .before .before .before .before .before .loop .out) (c .before .before .before .before .before .before .before .say-line .last .1 .1 .1 .1 .1 .1 .1 .0) (c .before .before .before .before .before .before .before .say-line .last .1 .1 .1 .1 .1 .1 .0)
-asked c = rw (c .before .said2 .given .1) at (c .before .before .before .before .before .before .before .say-line .ensures)
+-- a turn's line was read: the loop that the turn began with, what it came from, and the line
+module _ (s : tie.After-slice-known4 Inv-loop μ-loop) where
+  abbrev turn : tie.At-loop Inv-loop μ-loop
+  turn = s .before .before .before .before .before .before .before .before .before .before
 
--- the line that a turn takes
-abbrev line-of : tie.At-match-came Inv-loop μ-loop → Response
-line-of c =
-    let p = c .before .before .before .before .before .before .before .before .before .before .before in
-    lineAt (p .loop .book) (p .loop .l + 1) (p .loop .cut) (between (c .before .before .before .before .before .before .before .before .before .before .before .before .before .before .before .before .args .input .now) (p .loop .from) (p .loop .end))
+  abbrev began : tie.Start Inv-loop μ-loop
+  began = s .before .before .before .before .before .before .before .before .before .before .before .before .before .before .before
 
--- after either arm it is answered
+  abbrev line-of : Response
+  line-of = lineAt (turn .loop .book) (turn .loop .l + 1) (turn .loop .cut) (between (began .args .input .now) (turn .loop .from) (turn .loop .end))
+
+  abbrev numbers-of : List ℕ
+  numbers-of = s .before .before .before .before .say-line .last .1 .1 .1 .1 .1 .1 .0
+
+  -- what is still to be done, where it is that
+  abbrev Asks : Word → ℕ → Type 0
+  Asks w n = ToDo w n (turn .loop .book) line-of (turn .loop .out) (s .before .before .before .before .say-line .last .1 .1 .1 .1 .1 .1 .1 .0) numbers-of
+
+  asks-set : (n : ℕ) → s .before .before .before .before .say-line .result ≡ said.Set n → Asks word.Set n
+  asks-set n e = rw e at (s .before .before .before .before .say-line .ensures)
+
+  asks-on : (step : CodeStep) (n : ℕ) → s .before .before .before .before .say-line .result ≡ said.On step n → Asks (word.On step) n
+  asks-on step n e = rw e at (s .before .before .before .before .say-line .ensures)
+
+  -- the place that a call on a code is made on
+  has : (step : CodeStep) (n i : ℕ) → Asks (word.On step) n → (i < 32) × (inside (getD numbers-of 0 0) ≡ true → suc i ≡ getD numbers-of 0 0)
+      → HasPlace (turn .loop .book) (getD (take n numbers-of) 0 0) i (getD (turn .loop .book .places) i beyond) (turn .loop .book .loaded) (turn .loop .book .benchmarks)
+  has step n i a h = has-place (turn .loop .book) numbers-of n i (turn .loop .inv .2 .reachable) (some-number step n (a .2)) h
+
+-- after any of the arms it is answered
 line-done : (c : tie.At-match-came Inv-loop μ-loop)
-    → Answered (line-of c) (c .match .book) (c .before .before .before .before .before .before .before .before .before .before .before .loop .out) (c .before .before .before .before .before .before .before .before .before .before .before .loop .at) (c .match .at) (c .match .out)
+    → Answered (line-of (c .before)) (c .match .book) (turn (c .before) .loop .out) (turn (c .before) .loop .at) (c .match .at) (c .match .out)
 line-done c =
-    let q = c .before .before .before .before .before in
+    let s = c .before in
     ⊎-elim
-    (λ w. rw (w .3, w .4, w .5) (rw (w .1 .given .1) at (q .say-line .ensures)))
+    (λ w. rw (w .3, w .4, w .5) (rw (w .1 .given .1) at (s .before .before .before .before .say-line .ensures)))
+    (⊎-elim
     (λ w.
-    let says = rw (w .1 .given .1) at (q .say-line .ensures) in
-    rw (w .9, w .10, w .11, says .0) (rw (says .3) at (w .5 .ensures)))
+    let a = asks-set s _ (w .1 .given .1) in
+    rw (w .9, w .10, w .11, a .0) (rw (a .3) at (w .5 .ensures)))
+    (λ w.
+    let a = asks-on s _ _ (w .1 .given .1) in
+    rw (w .13, w .14, w .15, a .0) (rw (a .3) at (w .9 .ensures _ _ (has s (w .1 .given .0 .0) (w .1 .given .0 .1 .0) _ a (w .4 .ensures))))))
     (c .match .came)
 
 -- room for its answer
@@ -79,16 +108,55 @@ enum-known-said c = c .match .keys1
 enum-known-said-2 : tie.Need-enum-known-said-2 Inv-loop μ-loop
 enum-known-said-2 c = c .match .keys2
 
-slice-reshare-prefix-do-step : tie.Need-slice-reshare-prefix-do-step Inv-loop μ-loop
-slice-reshare-prefix-do-step c = asked c .1
+slice-reshare-prefix-do-set : tie.Need-slice-reshare-prefix-do-set Inv-loop μ-loop
+slice-reshare-prefix-do-set c = asks-set (c .before .before .before) _ (c .before .said2 .given .1) .1
 
-slice-aggregate-do-step : tie.Need-slice-aggregate-do-step Inv-loop μ-loop
-slice-aggregate-do-step c = sym (length-take-le _ _ (asked (c .before) .1))
+slice-aggregate-do-set : tie.Need-slice-aggregate-do-set Inv-loop μ-loop
+slice-aggregate-do-set c = sym (length-take-le _ _ (asks-set (c .before .before .before .before) _ (c .before .before .said2 .given .1) .1))
 
-do-step-requires : tie.Need-do-step-requires Inv-loop μ-loop
-do-step-requires c κs =
-    let a = asked (c .before .before) in
-    (c .before .before .before .before .before .before .before .before .before .before .before .before .before .before .before .loop .inv .2 .reachable, rw (length-take-le (c .before .before .before .said2 .given .0 .1 .0) (c .before .before .before .before .before .before .before .before .before .say-line .last .1 .1 .1 .1 .1 .1 .0) (a .1)) (a .2), omega (arith, ap length (a .3), room-for (c .before .before .before .before .before .before .before .before .before .before .before .before .before) (c .before .before .before .before .before .before .before .before .before .before .before .before .if1 .taken) .0))
+do-set-requires : tie.Need-do-set-requires Inv-loop μ-loop
+do-set-requires c κs =
+    let s = c .before .before .before .before .before in
+    let a = asks-set s _ (c .before .before .before .said2 .given .1) in
+    (turn s .loop .inv .2 .reachable, rw (length-take-le (c .before .before .before .said2 .given .0 .0) (numbers-of s) (a .1)) (a .2), omega (arith, ap length (a .3), room-for (s .before .before .before .before .before .before .before .before) (s .before .before .before .before .before .before .before .if1 .taken) .0))
+
+enum-known-said-3 : tie.Need-enum-known-said-3 Inv-loop μ-loop
+enum-known-said-3 c = c .match .keys3
+
+slice-read-index-of : tie.Need-slice-read-index-of Inv-loop μ-loop
+slice-read-index-of c =
+    let a = asks-on (c .before .before .before .before) _ _ (c .before .before .said3 .given .1) in
+    omega (arith, a .1, some-number (c .before .before .said3 .given .0 .0) (c .before .before .said3 .given .0 .1 .0) (a .2))
+
+index-of-requires : tie.Need-index-of-requires Inv-loop μ-loop
+index-of-requires c κs = search needs
+
+mul-p : tie.Need-mul-p Inv-loop μ-loop
+mul-p c = search needs
+
+element-copy-out-p : tie.Need-element-copy-out-p Inv-loop μ-loop
+element-copy-out-p c = search needs
+
+slice-reshare-prefix-do-on : tie.Need-slice-reshare-prefix-do-on Inv-loop μ-loop
+slice-reshare-prefix-do-on c = asks-on (c .before .before .before .before .before .before .before) _ _ (c .before .before .before .before .before .said3 .given .1) .1
+
+slice-aggregate-do-on : tie.Need-slice-aggregate-do-on Inv-loop μ-loop
+slice-aggregate-do-on c = sym (length-take-le _ _ (asks-on (c .before .before .before .before .before .before .before .before) _ _ (c .before .before .before .before .before .before .said3 .given .1) .1))
+
+do-on-requires : tie.Need-do-on-requires Inv-loop μ-loop
+do-on-requires c κs =
+    let s = c .before .before .before .before .before .before .before .before .before in
+    let a = asks-on s _ _ (c .before .before .before .before .before .before .before .said3 .given .1) in (
+      (turn s .loop .book, c .before .before .before .before .index-of .result, has s (c .before .before .before .before .before .before .before .said3 .given .0 .0) (c .before .before .before .before .before .before .before .said3 .given .0 .1 .0) _ a (c .before .before .before .before .index-of .ensures)),
+      rw (length-take-le (c .before .before .before .before .before .before .before .said3 .given .0 .1 .0) (numbers-of s) (a .1)) (a .2),
+      omega (arith, ap length (a .3), room-for (s .before .before .before .before .before .before .before .before) (s .before .before .before .before .before .before .before .if1 .taken) .0),
+    )
+
+mul-place : tie.Need-mul-place Inv-loop μ-loop
+mul-place c = search needs
+
+element-set-from-place : tie.Need-element-set-from-place Inv-loop μ-loop
+element-set-from-place c = search needs
 
 add-from : tie.Need-add-from Inv-loop μ-loop
 add-from c = omega (arith, c .before .before .before .before .before .before .before .before .before .before .loop-test .taken, c .before .before .before .before .before .before .before .before .before .before .before .before .before .before .before .before .pre .1 .inside, c .before .before .before .before .before .before .before .before .before .before .before .before .before .before .before .before .good)
@@ -151,9 +219,19 @@ take-lines-spec =
     say-line-requires
     enum-known-said
     enum-known-said-2
-    slice-reshare-prefix-do-step
-    slice-aggregate-do-step
-    do-step-requires
+    slice-reshare-prefix-do-set
+    slice-aggregate-do-set
+    do-set-requires
+    enum-known-said-3
+    slice-read-index-of
+    index-of-requires
+    mul-p
+    element-copy-out-p
+    slice-reshare-prefix-do-on
+    slice-aggregate-do-on
+    do-on-requires
+    mul-place
+    element-set-from-place
     add-from
     line-end-requires-2
     loop-less

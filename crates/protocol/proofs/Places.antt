@@ -1,0 +1,31 @@
+-- A call on a code, made on the one place that a book has at the code's index.
+-- Assumes nothing.
+use mathlib.Core.Path.{_≡_, refl, sym, subst}
+use mathlib.Core.Bool.{Bool}
+use Prim.Native.Nat.{ℕ}
+use Rattle.benchmark.specs.declared.Benchmarks.{Benchmarks}
+use Rattle.tariff.specs.Tariff.{tariffOf}
+use Rattle.book.specs.declared.State.the-variants.{Draft}
+use Rattle.book.specs.declared.Place.{Place}
+use Rattle.book.specs.declared.Settled.{Settled}
+use Rattle.book.specs.declared.Book.{Book}
+use Rattle.book.specs.Calls.{Record, PUT, call, accepted}
+use Rattle.book.specs.Book.{placeWith}
+use Rattle.book.specs.Promises.{Does}
+use Rattle.book.specs.Settling.{settledIn, Settles}
+use Rattle.codes.specs.declared.CodeAct.{CodeAct}
+use Rattle.codes.specs.Codes.{actOn, SettlesOn, Judgeable, putChecks}
+use Rattle.codes.proofs.Answers.{act-does, put-does, judgeable}
+use Rattle.codes.proofs.Handed.{handed}
+use Rattle.protocol.specs.Promises.{HasPlace}
+
+module _ {b : Book} {k i : ℕ} {p : Place} {loaded : Bool} {figures : Benchmarks} (h : HasPlace b k i p loaded figures) where
+  pub may-judge : (a : CodeAct) → Judgeable a p loaded figures
+  may-judge a = rw (h .place, h .is-loaded, h .has-figures) at (judgeable a b i (h .within) (handed (h .reachable) a))
+
+  pub acts : (a : CodeAct) (r : Settled) → SettlesOn a k p loaded figures r → Does b (call (actOn a k)) (settledIn b i r)
+  acts a r s =
+      act-does b k i p (h .index) (h .place) a r (handed (h .reachable) a) (rw (← h .is-loaded, ← h .has-figures) at s)
+
+  pub puts-there : (x : Record) (r : Settled) → Settles (putChecks k (p .state) x) accepted p (placeWith Draft (tariffOf x)) r → Does b (call (PUT k x)) (settledIn b i r)
+  puts-there x r s = put-does b k i p (h .index) (h .place) x r s

@@ -23,7 +23,7 @@ use Rattle.book.specs.Calls.{Record}
 use Rattle.book.specs.Checks.{Holding, inside}
 use Rattle.book.specs.Book.{empty, fresh, beyond, placeOf, setPlace, held, under}
 
--- a code that unless-passes refusal 6 is 1 to 32
+-- a code that passes refusal 6 is 1 to 32
 pub code-range : (k : ℕ) → inside k ≡ true → (1 ≤ k) × (k ≤ 32)
 code-range k e = (leb-true 1 k (and-left (leb 1 k) (leb k 32) e), leb-true k 32 (and-right (leb 1 k) (leb k 32) e))
 
@@ -77,7 +77,7 @@ held-inside ps (suc i) h l e = go (decLt i 32)
         let gone : held (getD ps i beyond) ≡ none = ap held out in
         never (cc)
 
--- a record that unless-passes refusal 8 has 13 numbers, and its tariff is valid
+-- a record that passes refusal 8 has 13 numbers, and its tariff is valid
 parts : (x : Record) → recordCheck x ≡ Pass → (eqb (length x) 13 && validTariff (tariffOf x)) ≡ true
 unfolding recordCheck
 parts x e = unless-passes (eqb (length x) 13 && validTariff (tariffOf x)) 8 Pass e .0

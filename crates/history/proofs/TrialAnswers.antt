@@ -1,7 +1,7 @@
 -- What TRIAL tells, by what is read from the accepted calls: the codes that a SET made in its place would send back to draft.
 -- Assumes nothing.
 use mathlib.Core.Path.{_≡_, refl, sym, _∙_, ap, ap₂, subst}
-use mathlib.Core.Bool.{Bool, true, false, cond, not, _&&_}
+use mathlib.Core.Bool.{Bool, true, false, cond, _&&_}
 use mathlib.Core.List.{List, [], _∷_}
 use mathlib.Core.Logic.{_↔_}
 use mathlib.Core.Option.{Option, none, some}
@@ -21,7 +21,7 @@ use Rattle.book.specs.Checks.{Holding, isOpen, inside, answer}
 use Rattle.book.specs.Book.{bookReadings, step}
 use Rattle.book.proofs.Places.{code-range}
 use Rattle.book.proofs.Accepted.{open-accepted}
-use Rattle.queries.specs.Queries.{Telling, refused, falling}
+use Rattle.queries.specs.Queries.{refused, falling}
 use Rattle.trial.specs.Trial.{isDraft, falls, codesWhere, toldUnless, trialOf}
 use Rattle.history.specs.History.{sheetOf, tariffAt, openOf, staysOpen, heldAs, readings, noted, logAfter}
 use Rattle.history.specs.Claim.{WouldFall, TrialAnswer}
@@ -35,14 +35,14 @@ held-tariff none o h e = never (cc)
 held-tariff (some x) o h e = (x, refl)
 
 module _ (log : List Act) (has : Tariffed log) where
-  -- a call on code j that leaves it not open
-  not-open : (j k : ℕ) (t : Option Tariff) (c : Bool) → cond c false (openOf log k) ≡ true → (x : Tariff) × (cond c t (tariffAt log k) ≡ some x)
-  not-open j k t true e = never (cc)
-  not-open j k t false e = has k e
+  -- after a call that leaves code k not open where c holds
+  not-open : (k : ℕ) (t : Option Tariff) (c : Bool) → cond c false (openOf log k) ≡ true → (x : Tariff) × (cond c t (tariffAt log k) ≡ some x)
+  not-open k t true e = never (cc)
+  not-open k t false e = has k e
 
   tariffed-act : (a : Act) → isAccepted (answer (readings log) a) ≡ true → Tariffed (a ∷ log)
   tariffed-act (SET s) e k o = has k (and-left (openOf log k) (staysOpen s (tariffAt log k)) o)
-  tariffed-act (PUT j x) e k o = not-open j k _ (eqb j k) o
+  tariffed-act (PUT j x) e k o = not-open k _ (eqb j k) o
   tariffed-act (OPEN j) e k o = go (eqb j k) refl o
     where
       go : (c : Bool) → eqb j k ≡ c → cond c true (openOf log k) ≡ true → (x : Tariff) × (tariffAt log k ≡ some x)
@@ -55,7 +55,7 @@ module _ (log : List Act) (has : Tariffed log) where
       closed : (c : Bool) → cond c false (openOf log k) ≡ true → (x : Tariff) × (tariffAt log k ≡ some x)
       closed true o = never (cc)
       closed false o = has k o
-  tariffed-act (DROP j) e k o = not-open j k none (eqb j k) o
+  tariffed-act (DROP j) e k o = not-open k none (eqb j k) o
 
   tariffed-noted : (c : Call) → Tariffed (noted log c)
   tariffed-noted c = go (isAccepted (answer (readings log) (c .act))) refl

@@ -1,6 +1,5 @@
 -- A call on a code, made on the one place that a book has at the code's index.
 -- Assumes nothing.
-use mathlib.Core.Path.{_≡_, refl, sym, subst}
 use mathlib.Core.Bool.{Bool}
 use Prim.Native.Nat.{ℕ}
 use Rattle.benchmark.specs.declared.Benchmarks.{Benchmarks}

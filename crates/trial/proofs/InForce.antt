@@ -1,7 +1,7 @@
 -- A trial of the sheet in force: nothing falls.
 -- Assumes nothing.
-use mathlib.Core.Path.{_≡_, refl, sym, _∙_, ap, subst}
-use mathlib.Core.Bool.{Bool, true, false, not, _&&_}
+use mathlib.Core.Path.{_≡_, refl, _∙_, ap, subst}
+use mathlib.Core.Bool.{Bool, true, false, _&&_}
 use mathlib.Core.List.{List, map}
 use mathlib.Core.Option.{some}
 use Prim.Native.Nat.{ℕ, suc, _<_}
@@ -21,7 +21,7 @@ use Rattle.book.proofs.Places.{in-range, at-map}
 use Rattle.stands.specs.Stands.{MayStandAs}
 use Rattle.stands.proofs.Kept.{reachable-stands}
 use Rattle.queries.specs.Queries.{falling}
-use Rattle.trial.specs.Trial.{isDraft, codesWhere, trialOf}
+use Rattle.trial.specs.Trial.{isDraft, trialOf}
 use Rattle.trial.specs.Places.{fell, fellFrom}
 use Rattle.trial.proofs.Trials.{trial-told}
 

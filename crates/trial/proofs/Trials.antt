@@ -13,7 +13,7 @@ use Rattle.book.specs.declared.Book.{Book}
 use Rattle.book.specs.Calls.{Sheet, SET, call, Answer, accepted, refusalNumber}
 use Rattle.book.specs.Calls as calls
 use Rattle.book.specs.Checks.{figuresOf, answer}
-use Rattle.book.specs.Book.{bookReadings, under, step}
+use Rattle.book.specs.Book.{bookReadings, under}
 use Rattle.book.proofs.Steps.{answered-by, made}
 use Rattle.queries.specs.Queries.{Telling, refused, falling}
 use Rattle.trial.specs.Trial.{falls, codesWhere, toldUnless, trialOf}

@@ -13,7 +13,7 @@ use Rattle.benchmark.specs.Benchmark.{benchmark, wc, pc, oc, nc, paenc, headroo
 use Rattle.tariff.specs.declared.Tariff.{Tariff}
 use Rattle.tariff.specs.Tariff.{tariffOf}
 use Rattle.verdict.specs.Cells.{Verdict, verdict}
-use Rattle.book.specs.declared.State.the-variants.{Draft, Open}
+use Rattle.book.specs.declared.State.the-variants.{Open}
 use Rattle.book.specs.declared.Place.{Place}
 use Rattle.book.specs.declared.Book.{Book}
 use Rattle.book.specs.Calls.{Sheet, Act, SET, PUT, OPEN, CLOSE, call, Answer, accepted, opened, isAccepted}

@@ -4,7 +4,7 @@ use mathlib.Core.Path.{_≡_, sym, _∙_, ap, subst}
 use mathlib.Core.List.{map}
 use Rattle.laws.proofs.Never.{never}
 use Rattle.refusal.specs.declared.Check.{Check}
-use Rattle.refusal.specs.declared.Check.the-variants.{Pass, Refuse}
+use Rattle.refusal.specs.declared.Check.the-variants.{Pass}
 use Rattle.benchmark.specs.declared.Benchmarks.{Benchmarks}
 use Rattle.benchmark.specs.Benchmark.{benchmarksOf, setCheck}
 use Rattle.benchmark.specs.Lawful.{Lawful}

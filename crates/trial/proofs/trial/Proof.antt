@@ -1,6 +1,6 @@
 -- `trial::trial` meets its contract: the places judged are those of the book that SET leaves.
 -- Assumes nothing.
-use mathlib.Core.Path.{_≡_, sym, _∙_, ap}
+use mathlib.Core.Path.{sym, _∙_, ap}
 use Rattle.book.specs.Calls.{sheetAt}
 use Rattle.queries.specs.Queries.{tellingOf, falling}
 use Rattle.queries.specs.Reading.{refusalTold}

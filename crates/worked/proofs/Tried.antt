@@ -31,7 +31,7 @@ use Rattle.worked.proofs.October.{october-accepted, october-low, octobe
 use Rattle.worked.proofs.Lists.{isOpening, complying, passed, quarter-set, low-put, low-opens}
 use Rattle.worked.specs.Worked.{quarter, october, noFields, low, close}
 use Rattle.worked.specs.Refusals.{withField, forPeriod, bothWrong, unordered}
-use Rattle.worked.specs.Tried.{two, three, oneClosed, Tried}
+use Rattle.worked.specs.Tried.{twoOpen, threeOpen, oneClosed, Tried}
 
 -- a list of accepted calls, and the book that it leaves
 data Makes : Book → List Act → Book → Type 0 where
@@ -56,10 +56,10 @@ five-then m =
     then accepted quarter-set refl
     (then accepted (passed close-record) refl (then accepted low-put refl (then (opened 28) close-opens refl (then (opened 28) low-opens refl m))))
 
-two-left : two ≡ twoOpened
+two-left : twoOpen ≡ twoOpened
 two-left = makes (five-then ended)
 
-three-left : three ≡ changed (changed twoOpened (PUT 32 close)) (OPEN 32)
+three-left : threeOpen ≡ changed (changed twoOpened (PUT 32 close)) (OPEN 32)
 three-left = makes (five-then (then accepted (passed close-record) refl (then (opened 28) close-opens refl ended)))
 
 closed-left : oneClosed ≡ changed twoOpened (CLOSE 1)
@@ -97,22 +97,22 @@ unfolding trialOf step setOf
 tried =
     record {
       one-falls =
-          told-by two october october-accepted _ _ _ _ _ _ 1 (ap (λ b. b .places) two-left)
+          told-by twoOpen october october-accepted _ _ _ _ _ _ 1 (ap (λ b. b .places) two-left)
           (judged october (tariffOf close) _ october-close) (judged october (tariffOf low) _ october-low) refl refl;
       last-place =
-          told-by three october october-accepted _ _ _ _ _ _ 2147483649 (ap (λ b. b .places) three-left)
+          told-by threeOpen october october-accepted _ _ _ _ _ _ 2147483649 (ap (λ b. b .places) three-left)
           (judged october (tariffOf close) _ october-close) (judged october (tariffOf low) _ october-low)
           (judged october (tariffOf close) _ october-close) refl;
       draft-stays =
           told-by oneClosed october october-accepted _ _ _ _ _ _ 0 (ap (λ b. b .places) closed-left)
           refl (judged october (tariffOf low) _ october-low) refl refl;
       same-sheet =
-          told-by two quarter (starred .accepted) _ _ _ _ _ _ 0 (ap (λ b. b .places) two-left)
+          told-by twoOpen quarter (starred .accepted) _ _ _ _ _ _ 0 (ap (λ b. b .places) two-left)
           (judged quarter (tariffOf close) _ (starred .just-within)) (judged quarter (tariffOf low) _ (starred .within)) refl refl;
       no-sheet = rw october-accepted;
-      refused-1 = trial-refused two noFields 1 (refused-sheets .0);
-      refused-2 = (trial-refused two (withField 94 0) 2 (refused-sheets .1), trial-refused two bothWrong 2 (refused-sheets .2));
-      refused-3 = trial-refused two (forPeriod 2023 13 1) 3 (refused-sheets .3);
-      refused-4 = trial-refused two (withField 20 100000000) 4 (refused-sheets .4);
-      refused-5 = trial-refused two unordered 5 (refused-sheets .5);
+      refused-1 = trial-refused twoOpen noFields 1 (refused-sheets .0);
+      refused-2 = (trial-refused twoOpen (withField 94 0) 2 (refused-sheets .1), trial-refused twoOpen bothWrong 2 (refused-sheets .2));
+      refused-3 = trial-refused twoOpen (forPeriod 2023 13 1) 3 (refused-sheets .3);
+      refused-4 = trial-refused twoOpen (withField 20 100000000) 4 (refused-sheets .4);
+      refused-5 = trial-refused twoOpen unordered 5 (refused-sheets .5);
     }

@@ -11,29 +11,29 @@ use Rattle.worked.specs.Worked.{quarter, october, noFields, low, close, 
 use Rattle.worked.specs.Refusals.{withField, forPeriod, bothWrong, unordered}
 
 -- the sheet of the quarter, with two open tariffs; a third one in place 32; and the first closed again
-abbrev pub twoOpen : List Act
-twoOpen = SET quarter ∷ PUT 1 close ∷ PUT 2 low ∷ OPEN 1 ∷ OPEN 2 ∷ []
+abbrev pub openingTwo : List Act
+openingTwo = SET quarter ∷ PUT 1 close ∷ PUT 2 low ∷ OPEN 1 ∷ OPEN 2 ∷ []
 
-abbrev pub two : Book
-two = bookOf twoOpen
+abbrev pub twoOpen : Book
+twoOpen = bookOf openingTwo
 
-abbrev pub three : Book
-three = bookOf (twoOpen ++ (PUT 32 close ∷ OPEN 32 ∷ []))
+abbrev pub threeOpen : Book
+threeOpen = bookOf (openingTwo ++ (PUT 32 close ∷ OPEN 32 ∷ []))
 
 abbrev pub oneClosed : Book
-oneClosed = bookOf (twoOpen ++ (CLOSE 1 ∷ []))
+oneClosed = bookOf (openingTwo ++ (CLOSE 1 ∷ []))
 
 pub record Tried : Type 0 where
   -- October's sheet would send the first of the two back to draft: bit 0; and in place 32 as well: bits 0 and 31
-  pub one-falls : trialOf two october ≡ falling 1
-  pub last-place : trialOf three october ≡ falling 2147483649
+  pub one-falls : trialOf twoOpen october ≡ falling 1
+  pub last-place : trialOf threeOpen october ≡ falling 2147483649
   -- a draft does not fall; nothing falls under the sheet in force; and a trial needs no sheet in force
   pub draft-stays : trialOf oneClosed october ≡ falling 0
-  pub same-sheet : trialOf two quarter ≡ falling 0
+  pub same-sheet : trialOf twoOpen quarter ≡ falling 0
   pub no-sheet : trialOf fresh october ≡ falling 0
   -- 1 to 5, as SET; 2 comes before 3
-  pub refused-1 : trialOf two noFields ≡ refused 1
-  pub refused-2 : (trialOf two (withField 94 0) ≡ refused 2) × (trialOf two bothWrong ≡ refused 2)
-  pub refused-3 : trialOf two (forPeriod 2023 13 1) ≡ refused 3
-  pub refused-4 : trialOf two (withField 20 100000000) ≡ refused 4
-  pub refused-5 : trialOf two unordered ≡ refused 5
+  pub refused-1 : trialOf twoOpen noFields ≡ refused 1
+  pub refused-2 : (trialOf twoOpen (withField 94 0) ≡ refused 2) × (trialOf twoOpen bothWrong ≡ refused 2)
+  pub refused-3 : trialOf twoOpen (forPeriod 2023 13 1) ≡ refused 3
+  pub refused-4 : trialOf twoOpen (withField 20 100000000) ≡ refused 4
+  pub refused-5 : trialOf twoOpen unordered ≡ refused 5

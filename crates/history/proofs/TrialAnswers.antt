@@ -16,11 +16,12 @@ use Rattle.laws.proofs.Never.{never}
 use Rattle.laws.proofs.Sets.{bit-of-set, bit-past-set}
 use Rattle.tariff.specs.declared.Tariff.{Tariff}
 use Rattle.book.specs.declared.Book.{Book}
-use Rattle.book.specs.Calls.{Sheet, Act, SET, PUT, OPEN, CLOSE, DROP, Call, call, Answer, refusalNumber, isNone, isAccepted}
+use Rattle.book.specs.Calls.{Sheet, Act, SET, PUT, OPEN, CLOSE, DROP, Call, call, refusalNumber, isAccepted}
 use Rattle.book.specs.Checks.{Holding, isOpen, inside, answer}
 use Rattle.book.specs.Book.{bookReadings, step}
 use Rattle.book.proofs.Places.{code-range}
 use Rattle.book.proofs.Accepted.{open-accepted}
+use Rattle.stands.proofs.Kept.{none-of}
 use Rattle.queries.specs.Queries.{refused, falling}
 use Rattle.trial.specs.Trial.{isDraft, falls, codesWhere, toldUnless, trialOf}
 use Rattle.history.specs.History.{sheetOf, tariffAt, openOf, staysOpen, heldAs, readings, noted, logAfter}
@@ -74,13 +75,6 @@ told-refusal : (o : Option ℕ) (codes n : ℕ) → (toldUnless o (falling codes
 told-refusal none codes n = (λ e. never (cc), λ e. never (cc))
 told-refusal (some m) codes n = (λ e. cc, λ e. cc)
 
-no-refusal : (a : Answer) → isAccepted a ≡ true → refusalNumber a ≡ none
-no-refusal a e = go (refusalNumber a) e
-  where
-    go : (o : Option ℕ) → isNone o ≡ true → o ≡ none
-    go none e = refl
-    go (some n) e = never (cc)
-
 -- open before and a draft after, of a code whose tariff stays
 fall-exactly : (t : Option Tariff) (o q : Bool) → (o ≡ true → (x : Tariff) × (t ≡ some x))
     → ((isOpen (heldAs t o) && isDraft (heldAs t q)) ≡ true) ↔ ((o ≡ true) × (q ≡ false))
@@ -130,5 +124,5 @@ module _ (log : List Act) (b : Book) (s : Sheet) (same : bookReadings b ≡ read
   trial-answer =
       record {
         refused-exactly = told-refusal (refusalNumber (answer (readings log) (SET s))) _;
-        falling-exactly = λ e. (_, ap (λ o. toldUnless o (falling (codesWhere (falls b (step b (call (SET s)) .book))))) (no-refusal (answer (readings log) (SET s)) e), codes-are);
+        falling-exactly = λ e. (_, ap (λ o. toldUnless o (falling (codesWhere (falls b (step b (call (SET s)) .book))))) (none-of (refusalNumber (answer (readings log) (SET s))) e), codes-are);
       }

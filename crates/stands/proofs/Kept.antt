@@ -10,7 +10,7 @@ use lib.ListN.{length-map, length-replicate, getD-replicate}
 use Rattle.laws.proofs.Never.{never}
 use Rattle.benchmark.specs.Benchmark.{setCheck}
 use Rattle.tariff.specs.declared.Tariff.{Tariff}
-use Rattle.verdict.specs.Cells.{Cell, firstOver}
+use Rattle.verdict.specs.Cells.{firstOver}
 use Rattle.book.specs.declared.State.{State}
 use Rattle.book.specs.declared.State.the-variants.{Empty, Draft, Open}
 use Rattle.book.specs.declared.Place.{Place}
@@ -33,7 +33,7 @@ held-fits f Draft p w h e =
 held-fits f Open p w h e = let same : holding (tariffIn p) true ≡ h = cc in (w .0, ap (λ g. g .tariff) same, λ q. w .1)
 
 -- a sheet comes in
-none-of : (o : Option Cell) → isNone o ≡ true → o ≡ none
+pub none-of : {A : Type 0} (o : Option A) → isNone o ≡ true → o ≡ none
 none-of none e = refl
 none-of (some c) e = never (cc)
 

@@ -16,9 +16,11 @@ use Rattle.calendar.specs.declared.Period.{Period}
 use Rattle.calendar.specs.Calendar.{periodInRange}
 use Rattle.calendar.proofs.Periods.{within}
 use Rattle.calendar.proofs.Lengths.{days-most}
-use Rattle.sheet.specs.Sheet.{field, fieldsInRange, termsFit}
+use Rattle.sheet.specs.Sheet.{fieldCount, field, fieldsInRange, termsFit}
+use Rattle.sheet.specs.CommonFields.{commonFields}
 use Rattle.sheet.specs.Ranged.{Ranged, Indexed}
-use Rattle.sheet.proofs.Bounds.{level-some, level-most}
+use Rattle.sheet.proofs.CommonFields.{common-indexed}
+use Rattle.sheet.proofs.Bounds.{all-ranged, level-some, level-most}
 use Rattle.benchmark.specs.Benchmark.{figureIndex, benchmark, figure, figures, ordered, benchmarksOf, setCheck}
 use Rattle.benchmark.specs.Lawful.{Lawful}
 use Rattle.refusal.proofs.Checks.{unless-passes}
@@ -51,11 +53,11 @@ module _ (s : List ℕ) (p : Period) (e : setCheck s p ≡ Pass) where
   pub passed-ordered : ordered (figures s) ≡ true
   passed-ordered = checks-passed .4
 
-  pub passed-ranged : Ranged s
-  passed-ranged = record { count = passed-count; ranges = passed-ranges }
+  pub passed-ranged : Ranged fieldCount s
+  passed-ranged = all-ranged s passed-count passed-ranges
 
-  pub passed-indexed : Indexed s
-  passed-indexed = record { ranged = passed-ranged; terms = passed-terms }
+  pub passed-indexed : Indexed (commonFields s)
+  passed-indexed = common-indexed s passed-ranged passed-terms
 
 -- each of the 112 figures, by its index: the paper's formula
 pub figure-at-index : (s : List ℕ) (k : ℕ) → k < 112 → getD (figures s) k 0 ≡ figure s k
@@ -80,10 +82,10 @@ pub charge-at-index :
     (s : List ℕ) (r a p l : ℕ) → r < 14 → a < 2 → p < 2 → l < 2 → getD (figures s) (figureIndex r a p l) 0 ≡ benchmark s r a p l
 charge-at-index s r a p l hr ha hp hl = figure-at-index s (figureIndex r a p l) (omega arith) ∙ figure-of-index s r a p l ha hp hl
 
-module _ (s : List ℕ) (h : Indexed s) where
+module _ (s : List ℕ) (h : Ranged fieldCount s) (i : Indexed (commonFields s)) where
   figure-most : (k : ℕ) → k < 112 → figure s k ≤ 2400000000
   unfolding figure
-  figure-most k l = benchmark-most s h (k / 8) (k / 4 % 2) (k / 2 % 2) (k % 2) (omega arith) (omega arith) (omega arith) (omega arith)
+  figure-most k l = benchmark-most s h i (k / 8) (k / 4 % 2) (k / 2 % 2) (k % 2) (omega arith) (omega arith) (omega arith) (omega arith)
 
   pub charge-most : (k : ℕ) → getD (figures s) k 0 ≤ 2400000000
   charge-most k = go (decLe 112 k)
@@ -116,14 +118,14 @@ pair-most m x y hx hy (suc (suc a)) = omega arith
 pub lawful : (s : List ℕ) (p : Period) → setCheck s p ≡ Pass → Lawful (benchmarksOf s p)
 unfolding benchmarksOf
 lawful s p e =
-    let h : Ranged s = passed-ranged s p e in
+    let h : Ranged fieldCount s = passed-ranged s p e in
     record {
       charge-count = figure-count s;
       level-count = refl;
-      charges-most = charge-most s (passed-indexed s p e);
+      charges-most = charge-most s h (passed-indexed s p e);
       nil-at-most-m = ordered-at (figures s) (passed-ordered s p e);
-      level-some = pair-some (field s 93) (field s 94) (level-some s h 93 (omega arith) (omega arith)) (level-some s h 94 (omega arith) (omega arith));
-      level-most = pair-most 20000 (field s 93) (field s 94) (level-most s h 93 (omega arith) (omega arith)) (level-most s h 94 (omega arith) (omega arith));
+      level-some = pair-some (field s 93) (field s 94) (level-some s h 93 (omega arith) (omega arith) (omega arith)) (level-some s h 94 (omega arith) (omega arith) (omega arith));
+      level-most = pair-most 20000 (field s 93) (field s 94) (level-most s h 93 (omega arith) (omega arith) (omega arith)) (level-most s h 94 (omega arith) (omega arith) (omega arith));
       months-some = within p (passed-period s p e) .months-least;
       months-most = within p (passed-period s p e) .months-most;
       days-most = days-most p (passed-period s p e);

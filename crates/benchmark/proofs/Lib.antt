@@ -1,4 +1,3 @@
 pub mod Sizes
 pub mod Commons
-pub mod Checks
 pub mod Lawful

@@ -1,19 +1,29 @@
--- The part of a benchmark that is the same in all regions: WC + PC + OC + PAENC + H. The code works it out once for each arrangement,
--- method and level.
+-- Document 02, M-101: "everything that has no region in it": WC, PC, OC, PAENC and H, from fields 0 to 36 alone. Each benchmark is its sum,
+-- NC and PANC (proofs/Commons.antt, `benchmark-is-sum`).
 -- Assumes nothing.
 use mathlib.Core.List.{List}
-use Prim.Native.Nat.{ℕ, _+_, _/_, _%_}
+use Prim.Native.Nat.{ℕ, _+_, _*_, _/_, _%_}
 use Rattle.laws.specs.Notions.{tabulate}
 use Rattle.benchmark.specs.Benchmark.{four, wc, pc, oc, paenc, headroom}
 
-unfoldable pub common : List ℕ → ℕ → ℕ → ℕ → ℕ
-common s a p l =
-    let f = four a l in
-    let costs = wc s f + pc s f + oc s f in
+-- WC + PC + OC at place f of the four: an arrangement and a level are in it, no method
+unfoldable pub costsAt : List ℕ → ℕ → ℕ
+costsAt s f = wc s f + pc s f + oc s f
+
+-- the sum of the five for an arrangement and a method, where costs is WC + PC + OC
+unfoldable pub sumFrom : List ℕ → ℕ → ℕ → ℕ → ℕ
+sumFrom s a p costs =
     let e = paenc s p costs in
     costs + e + headroom s a (costs + e)
 
--- the eight of them by arrangement, method and level
+-- the sum of an arrangement, a method and a level
+unfoldable pub common : List ℕ → ℕ → ℕ → ℕ → ℕ
+common s a p l = sumFrom s a p (costsAt s (four a l))
+
+-- "the eight sums" in one list, by arrangement, method and level: the index of a sum, and the sum of an index
+abbrev pub sumIndex : ℕ → ℕ → ℕ → ℕ
+sumIndex a p l = 4 * a + 2 * p + l
+
 unfoldable pub commonAt : List ℕ → ℕ → ℕ
 commonAt s j = common s (j / 4) (j / 2 % 2) (j % 2)
 

@@ -1,4 +1,3 @@
 pub mod Benchmark
 pub mod Common
 pub mod Lawful
-pub mod Working

@@ -48,3 +48,9 @@ pub every-all : (f : ℕ → Bool) (n : ℕ) → ((i : ℕ) → i < n → f i �
 unfolding every
 every-all f zero h = refl
 every-all f (suc n) h = rw (every-all f n (λ i k. h i (omega arith)), h n (omega arith))
+
+-- two tests that answer alike at each number below n
+pub every-alike : (f g : ℕ → Bool) (n : ℕ) → ((i : ℕ) → i < n → f i ≡ g i) → every n f ≡ every n g
+unfolding every
+every-alike f g zero h = refl
+every-alike f g (suc n) h = rw (every-alike f g n (λ i k. h i (omega arith)), h n (omega arith))

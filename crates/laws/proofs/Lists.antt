@@ -54,3 +54,7 @@ is-table n f xs l h =
     (tabulate n f)
     (l ∙ sym (length-tabulate n f))
     (λ i k. h i (omega arith) ∙ sym (getD-tabulate n f i (omega arith)))
+
+-- two tables that have the same entry at each index
+pub tabulate-alike : (n : ℕ) (f g : ℕ → ℕ) → ((i : ℕ) → i < n → f i ≡ g i) → tabulate n f ≡ tabulate n g
+tabulate-alike n f g h = is-table n g (tabulate n f) (length-tabulate n f) (λ i k. getD-tabulate n f i k ∙ h i k)

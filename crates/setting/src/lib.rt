@@ -81,7 +81,7 @@ pub fn judge(b: Book, fields: &[u32], period: Period) -> Judgement
     requires { ⌜ Reachable b ⌝ }
     ensures { λ r. ⌜ Judges b (sheetAt (now (fields .entry)) period) r ⌝ }
 {
-    let worked = benchmark::work_out(fields, period);
+    let worked = figures::work_out(fields, period);
     let check = worked.check;
     let figures = worked.benchmarks;
     let before = b.places;

@@ -7,48 +7,53 @@ use Prim.Native.Nat.{ℕ, _<_, _≤_}
 use native.Mathlib.Decide.{decLe}
 use native.Mathlib.Omega.{arith}
 use lib.Dec.{leb}
+use lib.ListN.{length}
 use borrow.Author.Tests.{leb-true}
 use Rattle.laws.specs.Notions.{every}
 use Rattle.laws.proofs.Every.{every-at, and-left, and-right}
-use Rattle.sheet.specs.Sheet.{field, rangeOf, fieldInRange, fieldsInRange, termMost, dfTerm, cmTerm, pcTerm, ocTerm, paacTerm, fourFit, paacFits, termsFit}
+use Rattle.sheet.specs.Sheet.{fieldCount, field, rangeOf, fieldInRange, fieldsInRange, termMost, dfTerm, cmTerm, pcTerm, ocTerm, paacTerm, fourFit, paacFits, termsFit}
 use Rattle.sheet.specs.Ranged.{Ranged, Indexed}
 use Rattle.sheet.proofs.Ranges.{money-first, ppm-at, money-middle, initial-at, current-at, money-last, level-at, in-range-bounds}
 
-module _ (s : List ℕ) (h : Ranged s) where
-  pub bounds : (k : ℕ) → k < 95 → (rangeOf k .low ≤ field s k) × (field s k ≤ rangeOf k .high)
-  unfolding fieldsInRange
-  bounds k l = in-range-bounds k (field s k) (every-at (λ j. fieldInRange j (field s j)) 95 (h .ranges) k l)
+-- a sheet that refusals 1 and 2 let pass
+pub all-ranged : (s : List ℕ) → length s ≡ fieldCount → fieldsInRange s ≡ true → Ranged fieldCount s
+unfolding fieldsInRange
+all-ranged s h e = record { count = h; ranges = every-at (λ k. fieldInRange k (field s k)) fieldCount e }
 
-  pub ppm-most : (k : ℕ) → 16 ≤ k → k < 20 → field s k ≤ 1000000
-  ppm-most k g l = rw (ppm-at k g l) at (bounds k (omega arith) .1)
+module _ {n : ℕ} (s : List ℕ) (h : Ranged n s) (k : ℕ) (there : k < n) where
+  pub bounds : (rangeOf k .low ≤ field s k) × (field s k ≤ rangeOf k .high)
+  bounds = in-range-bounds k (field s k) (h .ranges k there)
+
+  pub ppm-most : 16 ≤ k → k < 20 → field s k ≤ 1000000
+  ppm-most g l = rw (ppm-at k g l) at (bounds .1)
 
   -- a baseline or a share, fields 0 to 21
-  pub base-most : (k : ℕ) → k < 22 → field s k ≤ 100000000
-  base-most k l = go (decLe k 15) (decLe k 19)
+  pub base-most : k < 22 → field s k ≤ 100000000
+  base-most l = go (decLe k 15) (decLe k 19)
     where
       go : Dec (k ≤ 15) → Dec (k ≤ 19) → field s k ≤ 100000000
-      go (yes a) b = rw (money-first k (omega arith)) at (bounds k (omega arith) .1)
-      go (no a) (yes b) = omega (arith, ppm-most k (omega arith) (omega arith))
-      go (no a) (no b) = rw (money-middle k (omega arith) l) at (bounds k (omega arith) .1)
+      go (yes a) b = rw (money-first k (omega arith)) at (bounds .1)
+      go (no a) (yes b) = omega (arith, ppm-most (omega arith) (omega arith))
+      go (no a) (no b) = rw (money-middle k (omega arith) l) at (bounds .1)
 
-  pub initial-some : (k : ℕ) → 22 ≤ k → k < 29 → 1 ≤ field s k
-  initial-some k g l = rw (initial-at k g l) at (bounds k (omega arith) .0)
+  pub initial-some : 22 ≤ k → k < 29 → 1 ≤ field s k
+  initial-some g l = rw (initial-at k g l) at (bounds .0)
 
-  pub initial-most : (k : ℕ) → 22 ≤ k → k < 29 → field s k ≤ 1000000000
-  initial-most k g l = rw (initial-at k g l) at (bounds k (omega arith) .1)
+  pub initial-most : 22 ≤ k → k < 29 → field s k ≤ 1000000000
+  initial-most g l = rw (initial-at k g l) at (bounds .1)
 
-  pub current-most : (k : ℕ) → 29 ≤ k → k < 36 → field s k ≤ 1000000000
-  current-most k g l = rw (current-at k g l) at (bounds k (omega arith) .1)
+  pub current-most : 29 ≤ k → k < 36 → field s k ≤ 1000000000
+  current-most g l = rw (current-at k g l) at (bounds .1)
 
   -- SMNCC and NC, fields 36 to 92
-  pub money-most : (k : ℕ) → 36 ≤ k → k < 93 → field s k ≤ 100000000
-  money-most k g l = rw (money-last k g l) at (bounds k (omega arith) .1)
+  pub money-most : 36 ≤ k → k < 93 → field s k ≤ 100000000
+  money-most g l = rw (money-last k g l) at (bounds .1)
 
-  pub level-some : (k : ℕ) → 93 ≤ k → k < 95 → 1 ≤ field s k
-  level-some k g l = rw (level-at k g l) at (bounds k l .0)
+  pub level-some : 93 ≤ k → k < 95 → 1 ≤ field s k
+  level-some g l = rw (level-at k g l) at (bounds .0)
 
-  pub level-most : (k : ℕ) → 93 ≤ k → k < 95 → field s k ≤ 20000
-  level-most k g l = rw (level-at k g l) at (bounds k l .1)
+  pub level-most : 93 ≤ k → k < 95 → field s k ≤ 20000
+  level-most g l = rw (level-at k g l) at (bounds .1)
 
 -- four tests that hold together
 four-parts : (a b c d : Bool) → (a && b && c && d) ≡ true → (a ≡ true) × (b ≡ true) × (c ≡ true) × (d ≡ true)

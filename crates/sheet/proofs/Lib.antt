@@ -1,3 +1,4 @@
 pub mod Ranges
 pub mod Bounds
 pub mod Round
+pub mod CommonFields

@@ -6,6 +6,7 @@ ghost use mathlib.Core.Bool.{true};
 ghost use Prim.Native.Nat.{_+_, _*_, _≤_, _<_};
 ghost use lib.ListN.{length};
 ghost use Rattle.sheet.specs.Sheet.{rangeOf, fieldInRange, fieldsInRange, round, indexed, dfTerm, cmTerm, pcTerm, ocTerm, paacTerm, fourFit, paacFits, termsFit};
+ghost use Rattle.sheet.specs.CommonFields.{commonCount};
 ghost use Rattle.sheet.specs.Ranged.{Ranged};
 
 pub struct Range {
@@ -72,84 +73,87 @@ pub fn rounded(n: u64, d: u64) -> u64
     (2 * n + d) / (2 * d)
 }
 
-fn wide(x: u32) -> u64
+pub fn wide(x: u32) -> u64
     ensures { λ r. ⌜ r ≡ x ⌝ }
 {
     x as u64
 }
 
 // An indexed term: Round(baseline × current, initial), each given by its field number.
-fn indexed_term(s: &[u32], baseline: usize, current: usize, initial: usize) -> u64
-    requires { ⌜ Ranged (now s) × (baseline < 22) × (29 ≤ current) × (current < 36) × (22 ≤ initial) × (initial < 29) ⌝ }
-    ensures { λ r. ⌜ r ≡ indexed (now (s .entry)) baseline current initial ⌝ }
+fn indexed_term(part: &[u32], baseline: usize, current: usize, initial: usize) -> u64
+    requires { ⌜ Ranged commonCount (now part) × (baseline < 22) × (29 ≤ current) × (current < 36) × (22 ≤ initial) × (initial < 29) ⌝ }
+    ensures { λ r. ⌜ r ≡ indexed (now (part .entry)) baseline current initial ⌝ }
 {
-    rounded(wide(s[baseline]) * wide(s[current]), wide(s[initial]))
+    rounded(
+        wide(part[baseline]) * wide(part[current]),
+        wide(part[initial]),
+    )
 }
 
 // The terms of place f of a four: DF, CM, PC and OC; and PAAC's of a method p.
-pub fn df_term(s: &[u32], f: usize) -> u64
-    requires { ⌜ Ranged (now s) × (f < 4) ⌝ }
-    ensures { λ r. ⌜ r ≡ dfTerm (now (s .entry)) f ⌝ }
+pub fn df_term(part: &[u32], f: usize) -> u64
+    requires { ⌜ Ranged commonCount (now part) × (f < 4) ⌝ }
+    ensures { λ r. ⌜ r ≡ dfTerm (now (part .entry)) f ⌝ }
 {
-    indexed_term(s, f, 29, 22)
+    indexed_term(part, f, 29, 22)
 }
 
-pub fn cm_term(s: &[u32], f: usize) -> u64
-    requires { ⌜ Ranged (now s) × (f < 4) ⌝ }
-    ensures { λ r. ⌜ r ≡ cmTerm (now (s .entry)) f ⌝ }
+pub fn cm_term(part: &[u32], f: usize) -> u64
+    requires { ⌜ Ranged commonCount (now part) × (f < 4) ⌝ }
+    ensures { λ r. ⌜ r ≡ cmTerm (now (part .entry)) f ⌝ }
 {
-    indexed_term(s, 4 + f, 30, 23)
+    indexed_term(part, 4 + f, 30, 23)
 }
 
-pub fn pc_term(s: &[u32], f: usize) -> u64
-    requires { ⌜ Ranged (now s) × (f < 4) ⌝ }
-    ensures { λ r. ⌜ r ≡ pcTerm (now (s .entry)) f ⌝ }
+pub fn pc_term(part: &[u32], f: usize) -> u64
+    requires { ⌜ Ranged commonCount (now part) × (f < 4) ⌝ }
+    ensures { λ r. ⌜ r ≡ pcTerm (now (part .entry)) f ⌝ }
 {
-    indexed_term(s, 8 + f, 32 + f, 25 + f)
+    indexed_term(part, 8 + f, 32 + f, 25 + f)
 }
 
-pub fn oc_term(s: &[u32], f: usize) -> u64
-    requires { ⌜ Ranged (now s) × (f < 4) ⌝ }
-    ensures { λ r. ⌜ r ≡ ocTerm (now (s .entry)) f ⌝ }
+pub fn oc_term(part: &[u32], f: usize) -> u64
+    requires { ⌜ Ranged commonCount (now part) × (f < 4) ⌝ }
+    ensures { λ r. ⌜ r ≡ ocTerm (now (part .entry)) f ⌝ }
 {
-    indexed_term(s, 12 + f, 31, 24)
+    indexed_term(part, 12 + f, 31, 24)
 }
 
-pub fn paac_term(s: &[u32], p: usize) -> u64
-    requires { ⌜ Ranged (now s) × (p < 2) ⌝ }
-    ensures { λ r. ⌜ r ≡ paacTerm (now (s .entry)) p ⌝ }
+pub fn paac_term(part: &[u32], p: usize) -> u64
+    requires { ⌜ Ranged commonCount (now part) × (p < 2) ⌝ }
+    ensures { λ r. ⌜ r ≡ paacTerm (now (part .entry)) p ⌝ }
 {
-    indexed_term(s, 20 + p, 31, 24)
+    indexed_term(part, 20 + p, 31, 24)
 }
 
-fn four_fit(s: &[u32], f: usize) -> bool
-    requires { ⌜ Ranged (now s) × (f < 4) ⌝ }
-    ensures { λ r. ⌜ r ≡ fourFit (now (s .entry)) f ⌝ }
+fn four_fit(part: &[u32], f: usize) -> bool
+    requires { ⌜ Ranged commonCount (now part) × (f < 4) ⌝ }
+    ensures { λ r. ⌜ r ≡ fourFit (now (part .entry)) f ⌝ }
 {
-    df_term(s, f) <= 100_000_000
-        && cm_term(s, f) <= 100_000_000
-        && pc_term(s, f) <= 100_000_000
-        && oc_term(s, f) <= 100_000_000
+    df_term(part, f) <= 100_000_000
+        && cm_term(part, f) <= 100_000_000
+        && pc_term(part, f) <= 100_000_000
+        && oc_term(part, f) <= 100_000_000
 }
 
-fn paac_fits(s: &[u32], p: usize) -> bool
-    requires { ⌜ Ranged (now s) × (p < 2) ⌝ }
-    ensures { λ r. ⌜ r ≡ paacFits (now (s .entry)) p ⌝ }
+fn paac_fits(part: &[u32], p: usize) -> bool
+    requires { ⌜ Ranged commonCount (now part) × (p < 2) ⌝ }
+    ensures { λ r. ⌜ r ≡ paacFits (now (part .entry)) p ⌝ }
 {
-    paac_term(s, p) <= 100_000_000
+    paac_term(part, p) <= 100_000_000
 }
 
 // Whether no indexed term is above 100,000,000.
-pub fn terms_fit(s: &[u32]) -> bool
-    requires { ⌜ Ranged (now s) ⌝ }
-    ensures { λ r. ⌜ r ≡ termsFit (now (s .entry)) ⌝ }
+pub fn terms_fit(part: &[u32]) -> bool
+    requires { ⌜ Ranged commonCount (now part) ⌝ }
+    ensures { λ r. ⌜ r ≡ termsFit (now (part .entry)) ⌝ }
 {
     let mut f: usize = 0;
     while f < 4 {
-        if !four_fit(s, f) {
+        if !four_fit(part, f) {
             return false;
         }
         f += 1;
     }
-    paac_fits(s, 0) && paac_fits(s, 1)
+    paac_fits(part, 0) && paac_fits(part, 1)
 }

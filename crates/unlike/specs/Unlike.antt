@@ -10,7 +10,9 @@ use Rattle.laws.specs.Notions.{every, tabulate}
 use Rattle.refusal.specs.declared.Check.{Check}
 use Rattle.refusal.specs.declared.Check.the-variants.{Pass, Refuse}
 use Rattle.calendar.specs.Calendar.{periodDays}
-use Rattle.benchmark.specs.Benchmark.{benchmark, benchmarksOf, setCheck}
+use Rattle.sheet.specs.CommonFields.{commonFields}
+use Rattle.benchmark.specs.Benchmark.{wc, pc, oc, paenc, headroom, nc, panc, benchmark, benchmarksOf, setCheck}
+use Rattle.benchmark.specs.Common.{commons}
 use Rattle.tariff.specs.Tariff.{tariffOf, recordCheck}
 use Rattle.verdict.specs.Cells.{cell, Verdict, opens, over, verdict}
 use Rattle.unlike.specs.SheetU.{sheetU, periodU, threeTiers, peakAt, threeRegisters, allInOne, lonePair}
@@ -31,6 +33,11 @@ isFive (Refuse n) = eqb n 5
 pub record Unlike : Type 0 where
   pub accepted : setCheck sheetU periodU ≡ Pass
   pub days : periodDays periodU ≡ 60
+  -- the eight sums, and one figure traced: WC, PC and OC of single-rate at m, PAENC and H by Standard Credit, NC and PANC of region 0
+  pub sums : commons (commonFields sheetU) ≡ 9176014 ∷ 56333521 ∷ 8680346 ∷ 55051895 ∷ 10638546 ∷ 64664326 ∷ 10116806 ∷ 63242157 ∷ []
+  pub costs-traced : (wc sheetU 1 ≡ 35675000) × (pc sheetU 1 ≡ 8532710) × (oc sheetU 1 ≡ 10062840)
+  pub shares-traced : (paenc sheetU 0 54270550 ≡ 1505213) × (headroom sheetU 0 55775763 ≡ 557758)
+  pub network-traced : (nc sheetU 0 1 ≡ 12400000) × (panc sheetU 0 12400000 ≡ 248000)
   -- the first region and the last
   pub first-region : eightOf 0 ≡ 11420014 ∷ 68981521 ∷ 10886946 ∷ 67489095 ∷ 12780546 ∷ 77414326 ∷ 12223106 ∷ 75779657 ∷ []
   pub last-region : eightOf 13 ≡ 11287321 ∷ 68583575 ∷ 10756465 ∷ 67097782 ∷ 13046024 ∷ 77945243 ∷ 12484160 ∷ 76301726 ∷ []

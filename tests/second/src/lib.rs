@@ -24,5 +24,7 @@ mod tariff;
 
 pub use book::{Book, Maximum, NotOpened, Quote, Refusal, State, PLACES};
 pub use calendar::period_days;
-pub use sheet::{field_range, Breach, SheetError, FIELDS, METHODS, REGIONS};
+pub use sheet::{
+    common_sums, field_range, Breach, SheetError, COMMON_FIELDS, FIELDS, METHODS, REGIONS,
+};
 pub use tariff::{Tariff, MONTH_LIMIT, RECORD};

@@ -5,6 +5,8 @@ use crate::tariff::Tariff;
 
 /// Numbers on a cost sheet.
 pub const FIELDS: usize = 95;
+/// The first of them, all but NC and m: those that the sums without a region are made of.
+pub const COMMON_FIELDS: usize = 37;
 /// Charge Restriction Regions, in the order of Annex 6.
 pub const REGIONS: usize = 14;
 /// Payment methods: Standard Credit, then Other.
@@ -103,6 +105,40 @@ fn round(n: u64, d: u64) -> u64 {
     (2 * n + d) / (2 * d)
 }
 
+/// The part of the benchmarks that has no region in it: the eight sums WC + PC + OC + PAENC + H
+/// by arrangement, then method, then level, from fields 0 to 36, each within its range.
+/// `SheetError::Term` if an indexed term is too high.
+pub fn common_sums(fields: &[u32; COMMON_FIELDS]) -> Result<[u64; 8], SheetError> {
+    let term = |baseline: usize, index: usize| {
+        let product = u64::from(fields[baseline]) * u64::from(fields[CURRENT + index]);
+        let term = round(product, u64::from(fields[INITIAL + index]));
+        if term > u64::from(MONEY) {
+            Err(SheetError::Term)
+        } else {
+            Ok(term)
+        }
+    };
+    // WC + PC + OC, by arrangement, then level.
+    let mut costs = [0; 4];
+    for (four, cost) in costs.iter_mut().enumerate() {
+        let wc = term(DF0 + four, DFI)? + term(CM0 + four, CMI)?;
+        let pc = term(PC0 + four, PI + four)?;
+        let oc = term(OC0 + four, CPIH)? + u64::from(fields[SMNCC]);
+        *cost = wc + pc + oc;
+    }
+    let additional = [term(PAAC, CPIH)?, term(PAAC + 1, CPIH)?];
+
+    let mut sums = [0; 8];
+    for (i, sum) in sums.iter_mut().enumerate() {
+        let (arrangement, method, level) = (i / 4, i / 2 % 2, i % 2);
+        let cost = costs[2 * arrangement + level];
+        let paenc = additional[method] + round(u64::from(fields[PAP + method]) * cost, PPM);
+        let h = round(u64::from(fields[HAP + arrangement]) * (cost + paenc), PPM);
+        *sum = cost + paenc + h;
+    }
+    Ok(sums)
+}
+
 impl Sheet {
     pub fn new(year: u32, month: u32, t: u32, fields: &[u32]) -> Result<Sheet, SheetError> {
         let fields: &[u32; FIELDS] = fields.try_into().map_err(|_| SheetError::Length)?;
@@ -114,49 +150,25 @@ impl Sheet {
         }
         let days = period_days(year, month, t).ok_or(SheetError::Period)?;
 
-        let term = |baseline: usize, index: usize| {
-            let product = u64::from(fields[baseline]) * u64::from(fields[CURRENT + index]);
-            let term = round(product, u64::from(fields[INITIAL + index]));
-            if term > u64::from(MONEY) {
-                Err(SheetError::Term)
-            } else {
-                Ok(term)
-            }
-        };
-        // All the costs that do not vary by region or method, by four.
-        let mut costs = [0; 4];
-        for (four, cost) in costs.iter_mut().enumerate() {
-            *cost = term(DF0 + four, DFI)?
-                + term(CM0 + four, CMI)?
-                + term(PC0 + four, PI + four)?
-                + term(OC0 + four, CPIH)?
-                + u64::from(fields[SMNCC]);
-        }
-        let additional = [term(PAAC, CPIH)?, term(PAAC + 1, CPIH)?];
+        let common = fields.first_chunk().expect("95 fields are more than 37");
+        let sums = common_sums(common)?;
 
         let mut benchmarks = [[[Benchmark::default(); METHODS]; REGIONS]; ARRANGEMENTS];
         for (arrangement, regions) in benchmarks.iter_mut().enumerate() {
-            let headroom = u64::from(fields[HAP + arrangement]);
-            for method in 0..METHODS {
-                let adjustment = u64::from(fields[PAP + method]);
-                // Everything but the network costs and their adjustment.
-                let common = |level: usize| {
-                    let cost = costs[2 * arrangement + level];
-                    let paenc = additional[method] + round(adjustment * cost, PPM);
-                    cost + paenc + round(headroom * (cost + paenc), PPM)
-                };
-                let common = [common(0), common(1)];
-                for (region, methods) in regions.iter_mut().enumerate() {
+            for (region, methods) in regions.iter_mut().enumerate() {
+                for (method, benchmark) in methods.iter_mut().enumerate() {
                     let charge = |level: usize| {
-                        let network = u64::from(fields[NC + 4 * region + 2 * arrangement + level]);
+                        let sum = sums[4 * arrangement + 2 * method + level];
+                        let nc = u64::from(fields[NC + 4 * region + 2 * arrangement + level]);
+                        let panc = round(u64::from(fields[PAP + method]) * nc, PPM);
                         // At most 2,400,000,000.
-                        (common[level] + network + round(adjustment * network, PPM)) as u32
+                        (sum + nc + panc) as u32
                     };
                     let (nil, m) = (charge(0), charge(1));
                     if m < nil {
                         return Err(SheetError::Falling);
                     }
-                    methods[method] = Benchmark { nil, m };
+                    *benchmark = Benchmark { nil, m };
                 }
             }
         }

@@ -1,27 +1,54 @@
 -- `benchmark::commons_of` meets its contract. The loop's invariant: each place before j has its sum.
 -- Assumes nothing.
-use mathlib.Core.Path.{_≡_}
-use Prim.Native.Nat.{ℕ, _-_, _≤_, _<_}
+use mathlib.Core.Path.{_≡_, _∙_, ap}
+use Prim.Native.Nat.{ℕ, _+_, _*_, _/_, _%_, _-_, _≤_, _<_}
 use native.Mathlib.Omega.{arith}
 use borrow.Author.Needs.{needs}
 use lib.ListN.{length, getD, length-replicate, length-set}
 use Rattle.laws.proofs.Filled.{filled-more}
-use Rattle.laws.proofs.Lists.{is-table}
-use Rattle.benchmark.specs.Common.{commonAt, commons}
+use Rattle.laws.proofs.Lists.{getD-tabulate, is-table}
+use Rattle.benchmark.specs.Common.{costsAt, sumFrom, common, commonAt, commons}
+use Rattle.benchmark.proofs.Sizes.{costs-most}
 use Rattle.benchmark.proofs.commons_of.Statement.{statement}
 use Rattle.benchmark.proofs.commons_of.Tie as tie
 
 abbrev Inv-loop : tie.InvT-loop
-Inv-loop s sums₀ j₀ sums j = (j ≤ 8) × (length sums ≡ 8) × ((at : ℕ) → at < j → getD sums at 0 ≡ commonAt s at)
+Inv-loop part costs sums₀ j₀ sums j = (j ≤ 8) × (length sums ≡ 8) × ((at : ℕ) → at < j → getD sums at 0 ≡ commonAt part at)
 
 abbrev μ-loop : tie.MeasureT-loop
-μ-loop s sums₀ j₀ sums j = 8 - j
+μ-loop part costs sums₀ j₀ sums j = 8 - j
+
+costs-of-requires : tie.Need-costs-of-requires Inv-loop μ-loop
+costs-of-requires c κs = search needs
 
 loop-holds : tie.Need-loop-holds Inv-loop μ-loop
 loop-holds c = (omega arith, simp length-replicate, λ at h. absurd (omega arith))
 
+mul-common-of : tie.Need-mul-common-of Inv-loop μ-loop
+mul-common-of c = search needs
+
+add-common-of : tie.Need-add-common-of Inv-loop μ-loop
+add-common-of c = search needs
+
+mul-common-of-2 : tie.Need-mul-common-of-2 Inv-loop μ-loop
+mul-common-of-2 c = search needs
+
+array-read-common-of : tie.Need-array-read-common-of Inv-loop μ-loop
+array-read-common-of c = search needs
+
+-- the costs that are read are those of their place
+costs-read :
+    (c : tie.In-loop Inv-loop μ-loop) (f : ℕ) → f < 4 →
+    getD (c .before .before .costs-of .result) f 0 ≡ costsAt (c .before .before .before .before .args .part .now) f
+costs-read c f l = rw (c .before .before .costs-of .ensures) (getD-tabulate 4 (costsAt _) f l)
+
+costs-small : (c : tie.In-loop Inv-loop μ-loop) (f : ℕ) → f < 4 → getD (c .before .before .costs-of .result) f 0 ≤ 500000000
+costs-small c f l = rw (costs-read c f l) (costs-most _ (c .before .before .before .before .pre) f l)
+
 common-of-requires : tie.Need-common-of-requires Inv-loop μ-loop
-common-of-requires c κs = search needs
+common-of-requires c κs =
+    let start = c .before .before .before .before in
+    (start .pre, omega arith, omega arith, costs-small c _ (omega arith))
 
 mul-sums : tie.Need-mul-sums Inv-loop μ-loop
 mul-sums c = search needs
@@ -36,12 +63,16 @@ loop-less : tie.Need-loop-less Inv-loop μ-loop
 loop-less c = search needs
 
 loop-again : tie.Need-loop-again Inv-loop μ-loop
-unfolding commonAt
+unfolding commonAt common
 loop-again c =
-    let lp = c .before .before .loop in (
+    let lp = c .before .before .loop in
+    let s = c .before .before .before .before .before .args .part .now in
+    let f : ℕ = 2 * (lp .j / 4) + lp .j % 2 in
+    let told : c .common-of .result ≡ sumFrom s (lp .j / 4) (lp .j / 2 % 2) (getD (c .before .before .before .costs-of .result) f 0) =
+    c .common-of .ensures in (
       omega arith,
       simp length-set (lp .inv .1),
-      filled-more 0 (lp .sums) (lp .j) _ (commonAt _) (omega arith) (lp .inv .2) (c .common-of .ensures .0),
+      filled-more 0 (lp .sums) (lp .j) _ (commonAt s) (omega arith) (lp .inv .2) (told ∙ ap (sumFrom s (lp .j / 4) (lp .j / 2 % 2)) (costs-read (c .before) f (omega arith))),
     )
 
 returns : tie.Need-returns Inv-loop μ-loop
@@ -56,7 +87,12 @@ commons-of-spec =
     (tie.spec
     Inv-loop
     μ-loop
+    costs-of-requires
     loop-holds
+    mul-common-of
+    add-common-of
+    mul-common-of-2
+    array-read-common-of
     common-of-requires
     mul-sums
     array-write-sums

@@ -22,7 +22,7 @@ shared-slice-read-ppm-of c = search needs
 ppm-of-requires : tie.Need-ppm-of-requires
 ppm-of-requires c κs =
     let start = c .before .before .before in
-    (ppm-most _ (start .pre .0 .ranged) _ (omega arith) (omega arith), omega arith)
+    (ppm-most _ (start .pre .0 .ranged) _ (omega arith) (omega arith) (omega arith), omega arith)
 
 add-result : tie.Need-add-result
 add-result c =

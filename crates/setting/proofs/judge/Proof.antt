@@ -8,7 +8,7 @@ use Rattle.refusal.specs.declared.Check.the-variants.{Pass}
 use Rattle.benchmark.specs.declared.Benchmarks.{Benchmarks}
 use Rattle.benchmark.specs.Benchmark.{benchmarksOf, setCheck}
 use Rattle.benchmark.specs.Lawful.{Lawful}
-use Rattle.benchmark.specs.Working.{workedIf}
+use Rattle.figures.specs.Working.{workedIf}
 use Rattle.benchmark.proofs.Lawful.{lawful}
 use Rattle.book.specs.Book.{under}
 use Rattle.stands.proofs.InForce.{holds-at}

@@ -25,7 +25,7 @@ oc-term-requires c κs = search needs
 -- DF and CM, where their ways meet
 two-fit :
     (c : tie.Joined1) →
-    let s = c .before .before .before .args .s .now in
+    let s = c .before .before .before .args .part .now in
     let f = c .before .before .before .args .f in c .if1 .if2 ≡ (leb (dfTerm s f) termMost && leb (cmTerm s f) termMost)
 two-fit c =
     let r = c .before .df-term .result in
@@ -38,7 +38,7 @@ two-fit c =
 -- and PC
 three-fit :
     (c : tie.Joined2) →
-    let s = c .before .before .before .before .args .s .now in
+    let s = c .before .before .before .before .args .part .now in
     let f = c .before .before .before .before .args .f in
     c .if2 .if3 ≡ (leb (dfTerm s f) termMost && leb (cmTerm s f) termMost && leb (pcTerm s f) termMost)
 three-fit c =

@@ -13,9 +13,9 @@ use Rattle.sheet.proofs.indexed_term.Tie as tie
 product-most : (c : tie.After-wide2) → c .before .before .wide .result * c .wide2 .result ≤ 1000000000000000000
 product-most c =
     let start = c .before .before .before .before .before in
-    let s = start .args .s .now in
-    let a : c .before .before .wide .result ≤ 100000000 = rw (c .before .before .wide .ensures) (base-most s (start .pre .0) _ (start .pre .1)) in
-    let b : c .wide2 .result ≤ 1000000000 = rw (c .wide2 .ensures) (current-most s (start .pre .0) _ (start .pre .2) (start .pre .3)) in
+    let s = start .args .part .now in
+    let a : c .before .before .wide .result ≤ 100000000 = rw (c .before .before .wide .ensures) (base-most s (start .pre .0) _ (omega arith) (start .pre .1)) in
+    let b : c .wide2 .result ≤ 1000000000 = rw (c .wide2 .ensures) (current-most s (start .pre .0) _ (omega arith) (start .pre .2) (start .pre .3)) in
     omega (arith, mul-le-mul {n₂ = 100000000} {m₂ = 1000000000} a b)
 
 mul-wide : tie.Need-mul-wide
@@ -51,10 +51,10 @@ wide-requires-3 c κs = search needs
 rounded-requires : tie.Need-rounded-requires
 rounded-requires c κs =
     let start = c .before .before .before .before .before .before .before in
-    let s = start .args .s .now in (
+    let s = start .args .part .now in (
       product-most (c .before .before),
-      rw (c .wide3 .ensures) (initial-some s (start .pre .0) _ (start .pre .4) (start .pre .5)),
-      rw (c .wide3 .ensures) (initial-most s (start .pre .0) _ (start .pre .4) (start .pre .5)),
+      rw (c .wide3 .ensures) (initial-some s (start .pre .0) _ (omega arith) (start .pre .4) (start .pre .5)),
+      rw (c .wide3 .ensures) (initial-most s (start .pre .0) _ (omega arith) (start .pre .4) (start .pre .5)),
     )
 
 returns : tie.Need-returns

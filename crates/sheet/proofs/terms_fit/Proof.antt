@@ -13,10 +13,10 @@ use Rattle.sheet.proofs.terms_fit.Statement.{statement}
 use Rattle.sheet.proofs.terms_fit.Tie as tie
 
 abbrev Inv-loop : tie.InvT-loop
-Inv-loop s f₀ f = (f ≤ 4) × (every f (fourFit s) ≡ true)
+Inv-loop part f₀ f = (f ≤ 4) × (every f (fourFit part) ≡ true)
 
 abbrev μ-loop : tie.MeasureT-loop
-μ-loop s f₀ f = 4 - f
+μ-loop part f₀ f = 4 - f
 
 loop-holds : tie.Need-loop-holds Inv-loop μ-loop
 unfolding every
@@ -28,7 +28,7 @@ four-fit-requires c κs = search needs
 returns : tie.Need-returns Inv-loop μ-loop
 unfolding termsFit
 returns c =
-    let s = c .before .before .before .before .before .args .s .now in
+    let s = c .before .before .before .before .before .args .part .now in
     let no : fourFit s (c .before .before .before .loop .f) ≡ false = sym (c .before .four-fit .ensures) ∙ not-true _ (c .if1 .taken) in
     rw (every-not (fourFit s) 4 (c .before .before .before .loop .f) (omega arith) no)
 
@@ -50,7 +50,7 @@ paac-fits-requires-2 : tie.Need-paac-fits-requires-2 Inv-loop μ-loop
 paac-fits-requires-2 c κs = search needs
 
 -- where the loop ends, the terms of all four places fit
-all-four : (c : tie.After-loop Inv-loop μ-loop) → every 4 (fourFit (c .before .before .before .args .s .now)) ≡ true
+all-four : (c : tie.After-loop Inv-loop μ-loop) → every 4 (fourFit (c .before .before .before .args .part .now)) ≡ true
 all-four c = let e : c .before .loop .f ≡ 4 = omega arith in rw e at (c .before .loop .inv .1)
 
 returns-2 : tie.Need-returns-2 Inv-loop μ-loop

@@ -9,8 +9,10 @@ use lib.IntN.{ℤ, pos, _-ℤ_}
 use Rattle.laws.specs.Notions.{every}
 use Rattle.refusal.specs.declared.Check.the-variants.{Pass}
 use Rattle.calendar.specs.Calendar.{periodDays}
+use Rattle.sheet.specs.CommonFields.{commonFields}
 use Rattle.benchmark.specs.declared.Benchmarks.{Benchmarks}
 use Rattle.benchmark.specs.Benchmark.{benchmark, benchmarksOf, setCheck}
+use Rattle.benchmark.specs.Common.{commons}
 use Rattle.tariff.specs.Tariff.{tariffOf, recordCheck}
 use Rattle.cap.specs.Cap.{excess}
 use Rattle.verdict.specs.Cells.{Cell, Verdict, opens, over, verdict, tariffNumbers}
@@ -38,6 +40,8 @@ everywhere arrangement method level charge = every 14 (λ region. eqb (benchmark
 pub record Starred : Type 0 where
   pub accepted : setCheck sheetS periodS ≡ Pass
   pub days : periodDays periodS ≡ 92
+  -- the eight sums that no region is in, by arrangement, method and level (not in the paper: worked out by hand)
+  pub sums : commons (commonFields sheetS) ≡ 7378050 ∷ 53943090 ∷ 6817500 ∷ 52469500 ∷ 7378050 ∷ 60742410 ∷ 6817500 ∷ 59135500 ∷ []
   -- single-rate, Other and Standard Credit, at nil and m; Economy 7, Other, at m
   pub other-nil : everywhere 0 1 0 8817500 ≡ true
   pub other-m : everywhere 0 1 1 64469500 ≡ true

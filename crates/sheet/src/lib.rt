@@ -1,6 +1,7 @@
-// The cost sheet: 95 numbers, the range of each, and the eighteen indexed terms.
+// The cost sheet: 95 numbers, the range of each, and the eighteen indexed terms, worked out from fields 0 to 36.
 // Promise: `fields_in_range` is refusal 2 and `terms_fit` refusal 4, turned round; each term is Round(baseline × current, initial).
-// What the layer above may use: the terms' names, `Ranged` and `Indexed` of specs/Sheet.antt, and the bounds in proofs/Bounds.antt.
+// What the layer above may use: the terms' names, `Ranged` and `Indexed` of specs/Ranged.antt, the bounds in proofs/Bounds.antt, and what
+// depends on fields 0 to 36 alone, proofs/CommonFields.antt.
 ghost use mathlib.Core.Path.{_≡_};
 ghost use mathlib.Core.Bool.{true};
 ghost use Prim.Native.Nat.{_+_, _*_, _≤_, _<_};
@@ -73,13 +74,14 @@ pub fn rounded(n: u64, d: u64) -> u64
     (2 * n + d) / (2 * d)
 }
 
+// The same number in 64 bits.
 pub fn wide(x: u32) -> u64
     ensures { λ r. ⌜ r ≡ x ⌝ }
 {
     x as u64
 }
 
-// An indexed term: Round(baseline × current, initial), each given by its field number.
+// An indexed term: Round(baseline × current, initial), each given by its field number. It is lent the common fields, 0 to 36.
 fn indexed_term(part: &[u32], baseline: usize, current: usize, initial: usize) -> u64
     requires { ⌜ Ranged commonCount (now part) × (baseline < 22) × (29 ≤ current) × (current < 36) × (22 ≤ initial) × (initial < 29) ⌝ }
     ensures { λ r. ⌜ r ≡ indexed (now (part .entry)) baseline current initial ⌝ }

@@ -1,6 +1,5 @@
 -- `benchmark::common_of` meets its contract.
 -- Assumes nothing.
-use native.Mathlib.Omega.{arith}
 use borrow.Author.Needs.{needs}
 use Rattle.benchmark.specs.Common.{sumFrom}
 use Rattle.benchmark.proofs.common_of.Statement.{statement}

@@ -68,10 +68,11 @@ pub benchmark-is-sum :
     → benchmark s r a p l ≡ getD (commons (commonFields s)) (sumIndex a p l) 0 + nc s r (four a l) + panc s p (nc s r (four a l))
 benchmark-is-sum s r a p l ha hp hl = rw (sum-at-index s a p l ha hp hl) (benchmark-parts s r a p l)
 
+-- the index of a sum from its parts
 digits : (j : ℕ) → j ≡ sumIndex (j / 4) (j / 2 % 2) (j % 2)
 digits j = omega arith
 
--- the sum of the figure at an index of the 112
+-- which sum the figure at an index of the 112 has
 sum-of-figure : (k : ℕ) → k % 8 ≡ sumIndex (k / 4 % 2) (k / 2 % 2) (k % 2)
 sum-of-figure k =
     let ea : k % 8 / 4 ≡ k / 4 % 2 = omega arith in
@@ -79,6 +80,7 @@ sum-of-figure k =
     let el : k % 8 % 2 ≡ k % 2 = omega arith in
     rw (← ea, ← ep, ← el) (digits (k % 8))
 
+-- the same of the figure at an index of the 112
 pub figure-is-sum :
     (s : List ℕ) (k : ℕ) →
     let network = nc s (k / 8) (four (k / 4 % 2) (k % 2)) in

@@ -11,6 +11,7 @@ use Rattle.sheet.specs.Sheet.{fieldCount, indexed, dfTerm, cmTerm, pcTer
 use Rattle.sheet.specs.CommonFields.{commonCount, commonFields, Agree}
 use Rattle.sheet.specs.Ranged.{Ranged, Indexed}
 
+-- two sheets that agree in fields 0 to 36: their terms, and refusal 4
 module _ (s t : List ℕ) (same : Agree s t) where
   indexed-same :
       (baseline current initial : ℕ) → baseline < commonCount → current < commonCount → initial < commonCount
@@ -42,6 +43,7 @@ module _ (s t : List ℕ) (same : Agree s t) where
   unfolding termsFit paacFits
   terms-fit-same = rw (every-alike (fourFit s) (fourFit t) 4 four-fit-same, paac-same 0 (omega arith), paac-same 1 (omega arith))
 
+-- a sheet and its common fields
 pub common-agree : (s : List ℕ) → Agree (commonFields s) s
 common-agree s k l = getD-take commonCount s k 0 l
 

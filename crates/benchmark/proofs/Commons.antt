@@ -43,7 +43,7 @@ pub sums-of-common : (s : List ℕ) → commons (commonFields s) ≡ commons s
 sums-of-common s = commons-same (commonFields s) s (common-agree s)
 
 -- a sum by its index
-pub common-at-index : (s : List ℕ) (j : ℕ) → j < 8 → getD (commons s) j 0 ≡ commonAt s j
+common-at-index : (s : List ℕ) (j : ℕ) → j < 8 → getD (commons s) j 0 ≡ commonAt s j
 unfolding commons
 common-at-index s j h = getD-tabulate 8 (commonAt s) j h
 

@@ -1,13 +1,12 @@
 -- `figures::figures_of` meets its contract. The loop's invariant: each place before k has its figure.
 -- Assumes nothing.
-use mathlib.Core.Path.{_≡_, sym}
+use mathlib.Core.Path.{_≡_}
 use Prim.Native.Nat.{ℕ, _-_, _%_, _≤_, _<_}
 use native.Mathlib.Omega.{arith}
 use borrow.Author.Needs.{needs}
-use lib.ListN.{length, getD, length-replicate, length-set}
+use lib.ListN.{length, getD, length-replicate, length-set, length-take}
 use Rattle.laws.proofs.Filled.{filled-more}
 use Rattle.laws.proofs.Lists.{is-table}
-use Rattle.sheet.proofs.CommonFields.{common-ranged}
 use Rattle.benchmark.specs.Benchmark.{figure, figures}
 use Rattle.benchmark.proofs.Commons.{sum-most}
 use Rattle.figures.proofs.figures_of.Statement.{statement}
@@ -23,10 +22,10 @@ loop-holds : tie.Need-loop-holds Inv-loop μ-loop
 loop-holds c = (omega arith, simp length-replicate, λ at h. absurd (omega arith))
 
 slice-aggregate-commons-of : tie.Need-slice-aggregate-commons-of Inv-loop μ-loop
-slice-aggregate-commons-of c = sym (common-ranged _ (c .before .before .pre .0) .count)
+slice-aggregate-commons-of c = rw length-take (omega (arith, c .before .before .pre .0 .count))
 
 commons-of-requires : tie.Need-commons-of-requires Inv-loop μ-loop
-commons-of-requires c κs = search needs
+commons-of-requires c κs = c .before .before .pre .1
 
 mul-figure-at : tie.Need-mul-figure-at Inv-loop μ-loop
 mul-figure-at c = search needs

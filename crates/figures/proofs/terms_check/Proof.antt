@@ -1,7 +1,9 @@
 -- `figures::terms_check` meets its contract: the test that it makes of the common fields is the definition's of the sheet.
 -- Assumes nothing.
-use mathlib.Core.Path.{sym, _∙_, ap}
+use mathlib.Core.Path.{_∙_, ap}
+use native.Mathlib.Omega.{arith}
 use borrow.Author.Needs.{needs}
+use lib.ListN.{length-take}
 use Rattle.refusal.specs.declared.Check.the-variants.{Pass}
 use Rattle.refusal.specs.Checks.{unless}
 use Rattle.sheet.specs.CommonFields.{commonFields}
@@ -10,7 +12,7 @@ use Rattle.figures.proofs.terms_check.Statement.{statement}
 use Rattle.figures.proofs.terms_check.Tie as tie
 
 slice-aggregate-terms-fit : tie.Need-slice-aggregate-terms-fit
-slice-aggregate-terms-fit c = sym (common-ranged _ (c .before .before .pre) .count)
+slice-aggregate-terms-fit c = rw length-take (omega (arith, c .before .before .pre .count))
 
 terms-fit-requires : tie.Need-terms-fit-requires
 terms-fit-requires c κs = common-ranged _ (c .before .before .pre)

@@ -29,7 +29,7 @@ answerText a = okOrRefused (refusalNumber a) (carried a)
 -- trial: ok SET | refused N
 abbrev pub toldText : Telling → List ℕ
 toldText (telling.refused n) = okOrRefused (some n) []
-toldText (benchmarkCharge mills) = okOrRefused none (mills ∷ [])
+toldText (benchmarkCharge mills) = okOrRefused none (natAbs mills ∷ [])
 toldText (maximumCharge f) = okOrRefused none (f .number ∷ f .denominator ∷ [])
 toldText (quotation q) = okOrRefused none (q .charge ∷ q .maximum ∷ [])
 toldText (falling codes) = okOrRefused none (codes ∷ [])

@@ -1,3 +1,4 @@
 pub mod Sizes
 pub mod Commons
+pub mod Signs
 pub mod Lawful

@@ -1,3 +1,4 @@
 pub mod Benchmark
 pub mod Common
+pub mod Signs
 pub mod Lawful

@@ -44,7 +44,7 @@ abbrev pub verdictAnswer : Verdict → Answer
 verdictAnswer (opens n) = opened n
 verdictAnswer (cells.over c months e) = over c months e
 
--- SET: 1 to 5
+-- SET: 1 to 4, 14 and 5
 abbrev pub setAnswer : Sheet → Answer
 setAnswer s = checked refused (setCheck (s .fields) (s .period)) accepted
 

@@ -15,7 +15,7 @@ use Rattle.calendar.specs.declared.Period.{Period}
 use Rattle.calendar.specs.Calendar.{periodInRange}
 use Rattle.sheet.specs.Sheet.{fieldsInRange, termsFit}
 use Rattle.figures.specs.declared.Worked.{Worked}
-use Rattle.benchmark.specs.Benchmark.{figures, ordered, benchmarksOf, setCheck, noBenchmarks}
+use Rattle.benchmark.specs.Benchmark.{figures, ocsFit, ordered, benchmarksOf, setCheck, noBenchmarks}
 use Rattle.figures.specs.Working.{workedIf}
 
 module _ (s : List ℕ) (p : Period) (n : ℕ) where
@@ -36,12 +36,18 @@ module _ (s : List ℕ) (p : Period) (n : ℕ) where
   unfolding setCheck
   fourth-refuses h r q e = rw (eq-eqb (length s) 95 h, r, q) (unless-refuses (termsFit s) 4 n _ e)
 
-module _ (s : List ℕ) (p : Period) where
-  -- where the first four pass, the fifth is the answer
-  pub fifth-answers :
-      length s ≡ 95 → fieldsInRange s ≡ true → periodInRange p ≡ true → termsFit s ≡ true → setCheck s p ≡ unless (ordered (figures s)) 5 Pass
+  pub fourteenth-refuses :
+      length s ≡ 95 → fieldsInRange s ≡ true → periodInRange p ≡ true → termsFit s ≡ true → unless (ocsFit s) 14 Pass ≡ Refuse n → setCheck s p ≡ Refuse n
   unfolding setCheck
-  fifth-answers h r q f = rw (eq-eqb (length s) 95 h, r, q, f)
+  fourteenth-refuses h r q f e = rw (eq-eqb (length s) 95 h, r, q, f) (unless-refuses (ocsFit s) 14 n _ e)
+
+module _ (s : List ℕ) (p : Period) where
+  -- where the others pass, the fifth is the answer
+  pub fifth-answers :
+      length s ≡ 95 → fieldsInRange s ≡ true → periodInRange p ≡ true → termsFit s ≡ true → ocsFit s ≡ true
+      → setCheck s p ≡ unless (ordered (figures s)) 5 Pass
+  unfolding setCheck
+  fifth-answers h r q f o = rw (eq-eqb (length s) 95 h, r, q, f, o)
 
   -- what `work_out` promises, where SET refuses and where it passes
   abbrev pub Answered : Worked → Type 0

@@ -1,8 +1,9 @@
-// The 112 figures of a sheet, each its sum of the common part with NC and PANC, and SET's refusals 1 to 5.
+// The 112 figures of a sheet, each its sum of the common part with NC and PANC, and SET's refusals 1 to 5 and 14.
 // Promise: `work_out` answers SET's first refusal, or the figures with which tariffs are judged. What the layer above may use: its contract,
 // and `workedIf` of specs/Working.antt.
 ghost use mathlib.Core.Path.{_≡_};
-ghost use Prim.Native.Nat.{_+_, _%_, _≤_, _<_};
+ghost use Prim.Native.Nat.{_%_, _≤_, _<_};
+ghost use lib.IntN.{pos, _+ℤ_};
 ghost use lib.Dec.{eqb};
 ghost use lib.ListN.{length, getD};
 ghost use Rattle.refusal.specs.declared.Check.the-variants.{Pass};
@@ -11,8 +12,9 @@ ghost use Rattle.calendar.specs.Calendar.{periodInRange};
 ghost use Rattle.sheet.specs.Sheet.{fieldCount, fieldsInRange, termsFit};
 ghost use Rattle.sheet.specs.CommonFields.{commonFields};
 ghost use Rattle.sheet.specs.Ranged.{Ranged, Indexed};
-ghost use Rattle.benchmark.specs.Benchmark.{nc, panc, figure, figures, ordered, benchmarksOf, setCheck, noBenchmarks};
+ghost use Rattle.benchmark.specs.Benchmark.{nc, panc, figure, figures, ocsFit, ordered, benchmarksOf, setCheck, noBenchmarks};
 ghost use Rattle.benchmark.specs.Common.{commons};
+ghost use Rattle.benchmark.specs.Signs.{Costed};
 ghost use Rattle.figures.specs.Working.{workedIf};
 use benchmark::Benchmarks;
 use calendar::Period;
@@ -27,7 +29,7 @@ pub struct Worked {
 // The Benchmark Maximum Charge of a region, at place f of the four and for a method, where its sum is known.
 fn charge_at(s: &[u32], sum: u64, region: usize, f: usize, method: usize) -> u64
     requires { ⌜ Ranged fieldCount (now s) × (sum ≤ 2200000000) × (region < 14) × (f < 4) × (method < 2) ⌝ }
-    ensures { λ r. ⌜ (r ≡ sum + nc (now (s .entry)) region f + panc (now (s .entry)) method (nc (now (s .entry)) region f)) × (r ≤ 2400000000) ⌝ }
+    ensures { λ r. ⌜ (pos r ≡ pos sum +ℤ nc (now (s .entry)) region f +ℤ panc (now (s .entry)) method (nc (now (s .entry)) region f)) × (r ≤ 2400000000) ⌝ }
 {
     let network = sheet::wide(s[37 + 4 * region + f]);
     sum + network + benchmark::ppm_of(s[18 + method], network)
@@ -35,7 +37,7 @@ fn charge_at(s: &[u32], sum: u64, region: usize, f: usize, method: usize) -> u64
 
 // The figure at an index of the 112, where its sum is known.
 fn figure_at(s: &[u32], sum: u64, k: usize) -> u32
-    requires { ⌜ Ranged fieldCount (now s) × (k < 112) × (sum ≡ getD (commons (commonFields (now s))) (k % 8) 0) × (sum ≤ 2200000000) ⌝ }
+    requires { ⌜ Ranged fieldCount (now s) × Costed (commonFields (now s)) × (k < 112) × (sum ≡ getD (commons (commonFields (now s))) (k % 8) 0) ⌝ }
     ensures { λ r. ⌜ r ≡ figure (now (s .entry)) k ⌝ }
 {
     charge_at(s, sum, k / 8, 2 * (k / 4 % 2) + k % 2, k / 2 % 2) as u32
@@ -43,7 +45,7 @@ fn figure_at(s: &[u32], sum: u64, k: usize) -> u32
 
 // The 112 figures: the eight sums, lent no field of a region, then NC and PANC of each region.
 fn figures_of(s: &[u32]) -> [u32; 112]
-    requires { ⌜ Ranged fieldCount (now s) × Indexed (commonFields (now s)) ⌝ }
+    requires { ⌜ Ranged fieldCount (now s) × Costed (commonFields (now s)) ⌝ }
     ensures { λ r. ⌜ r ≡ figures (now (s .entry)) ⌝ }
 {
     let sums = benchmark::commons_of(&s[..37]);
@@ -107,6 +109,14 @@ fn terms_check(s: &[u32]) -> Check
     refuse_unless(sheet::terms_fit(&s[..37]), 4)
 }
 
+// 14: some OC below zero.
+fn ocs_check(s: &[u32]) -> Check
+    requires { ⌜ Ranged fieldCount (now s) × Indexed (commonFields (now s)) ⌝ }
+    ensures { λ r. ⌜ r ≡ unless (ocsFit (now (s .entry))) 14 Pass ⌝ }
+{
+    refuse_unless(benchmark::ocs_fit(&s[..37]), 14)
+}
+
 // 5: some benchmark at m below its benchmark at nil.
 fn order_check(charges: [u32; 112]) -> Check
     ensures { λ r. ⌜ r ≡ unless (ordered charges) 5 Pass ⌝ }
@@ -130,7 +140,7 @@ fn refused(check: Check) -> Worked
 }
 
 // SET's checks on a lent sheet and a period, and what they come to where all pass. An answer is worked out as soon as the answers
-// before it allow, and opened in the order of document 01.
+// before it allow, and opened in the order of documents 01 and 02.
 pub fn work_out(s: &[u32], p: Period) -> Worked
     ensures { λ r. ⌜ (r .check ≡ setCheck (now (s .entry)) p) × (r .benchmarks ≡ workedIf (setCheck (now (s .entry)) p) (benchmarksOf (now (s .entry)) p)) ⌝ }
 {
@@ -149,6 +159,10 @@ pub fn work_out(s: &[u32], p: Period) -> Worked
     };
     let Check::Pass = terms else {
         return refused(terms);
+    };
+    let ocs = ocs_check(s);
+    let Check::Pass = ocs else {
+        return refused(ocs);
     };
     let charges = figures_of(s);
     let order = order_check(charges);

@@ -8,5 +8,6 @@ pub mod Sums
 pub mod Differences
 pub mod Greatest
 pub mod Never
+pub mod Signed
 pub mod Pieces
 pub mod Sets

@@ -4,6 +4,7 @@ use mathlib.Core.Bool.{Bool, _&&_}
 use mathlib.Core.List.{List}
 use Prim.Native.Nat.{ℕ, _*_}
 use lib.Dec.{leb, ltb, eqb}
+use lib.IntN.{ℤ, pos}
 use lib.ListN.{length, getD}
 use Rattle.laws.specs.Notions.{every}
 use Rattle.refusal.specs.Checks.{need, given}
@@ -33,7 +34,7 @@ pub record Quotation : Type 0 where
 -- a fraction, QUOTE a quotation, and TRIAL "a set of codes, bit code - 1" (trial/specs/Trial.antt)
 pub data Telling : Type 0 where
   refused : (number : ℕ) → Telling
-  benchmarkCharge : (mills : ℕ) → Telling
+  benchmarkCharge : (mills : ℤ) → Telling
   maximumCharge : Fraction → Telling
   quotation : Quotation → Telling
   falling : (codes : ℕ) → Telling
@@ -41,7 +42,7 @@ pub data Telling : Type 0 where
 -- the code's answer in these words: "this paper's number and values for each of the enum's cases"
 abbrev pub tellingOf : Told → Telling
 tellingOf (told.Refused n) = refused n
-tellingOf (told.Benchmark mills) = benchmarkCharge mills
+tellingOf (told.Benchmark mills) = benchmarkCharge (pos mills)
 tellingOf (told.Maximum n d) = maximumCharge (record { number = n; denominator = d })
 tellingOf (told.Quote c m) = quotation (record { charge = c; maximum = m })
 tellingOf (told.Falling codes) = falling codes

@@ -1,2 +1,3 @@
 pub mod SheetS
 pub mod Starred
+pub mod Savings

@@ -100,7 +100,7 @@ pub fn judge(b: Book, fields: &[u32], period: Period) -> Judgement
     }
 }
 
-// SET (sheet, period). 1 to 5. Else the sheet is replaced and each open tariff that exceeds somewhere becomes a draft.
+// SET (sheet, period). 1 to 4, 14, 5. Else the sheet is replaced and each open tariff that exceeds somewhere becomes a draft.
 pub fn set(b: Book, fields: &[u32], period: Period) -> Done
     requires { ⌜ Reachable b ⌝ }
     ensures { λ r. ⌜ Does b (call (SET (sheetAt (now (fields .entry)) period))) r ⌝ }

@@ -6,14 +6,16 @@ use mathlib.Core.List.{List}
 use Prim.Native.Nat.{ℕ, _<_, _≤_}
 use native.Mathlib.Decide.{decLe}
 use native.Mathlib.Omega.{arith}
-use lib.Dec.{leb}
+use lib.Dec.{leb, leb→le}
+use lib.IntN.{ℤ, pos, negsuc, negℤ}
+use lib.Signed.{mag, _≤ℤ_}
 use lib.ListN.{length}
 use borrow.Author.Tests.{leb-true}
 use Rattle.laws.specs.Notions.{every}
 use Rattle.laws.proofs.Every.{every-at, and-left, and-right}
-use Rattle.sheet.specs.Sheet.{fieldCount, field, rangeOf, fieldInRange, fieldsInRange, termMost, dfTerm, cmTerm, pcTerm, ocTerm, paacTerm, fourFit, paacFits, termsFit}
+use Rattle.sheet.specs.Sheet.{fieldCount, field, smnccField, valueOf, smncc, rangeOf, fieldInRange, fieldsInRange, termMost, dfTerm, cmTerm, pcTerm, ocTerm, paacTerm, fourFit, paacFits, termsFit}
 use Rattle.sheet.specs.Ranged.{Ranged, Indexed}
-use Rattle.sheet.proofs.Ranges.{money-first, ppm-at, money-middle, initial-at, current-at, money-last, level-at, in-range-bounds}
+use Rattle.sheet.proofs.Ranges.{money-first, ppm-at, money-middle, initial-at, current-at, money-last, level-at, plain-bounds, net-cost-bounds}
 
 -- a sheet that refusals 1 and 2 let pass
 pub all-ranged : (s : List ℕ) → length s ≡ fieldCount → fieldsInRange s ≡ true → Ranged fieldCount s
@@ -21,39 +23,52 @@ unfolding fieldsInRange
 all-ranged s h e = record { count = h; ranges = every-at (λ k. fieldInRange k (field s k)) fieldCount e }
 
 module _ {n : ℕ} (s : List ℕ) (h : Ranged n s) (k : ℕ) (there : k < n) where
-  pub bounds : (rangeOf k .low ≤ field s k) × (field s k ≤ rangeOf k .high)
-  bounds = in-range-bounds k (field s k) (h .ranges k there)
+  bounds :
+      (low high : ℕ) → (k ≡ smnccField → ⊥) → rangeOf k ≡ record { low = pos low; high = pos high } → (low ≤ field s k) × (field s k ≤ high)
+  bounds low high plain range = plain-bounds k (field s k) low high plain range (h .ranges k there)
 
   pub ppm-most : 16 ≤ k → k < 20 → field s k ≤ 1000000
-  ppm-most g l = rw (ppm-at k g l) at (bounds .1)
+  ppm-most g l = bounds 0 1000000 (λ e. omega arith) (ppm-at k g l) .1
 
   -- a baseline or a share, fields 0 to 21
   pub base-most : k < 22 → field s k ≤ 100000000
   base-most l = go (decLe k 15) (decLe k 19)
     where
       go : Dec (k ≤ 15) → Dec (k ≤ 19) → field s k ≤ 100000000
-      go (yes a) b = rw (money-first k (omega arith)) at (bounds .1)
+      go (yes a) b = bounds 0 100000000 (λ e. omega arith) (money-first k (omega arith)) .1
       go (no a) (yes b) = omega (arith, ppm-most (omega arith) (omega arith))
-      go (no a) (no b) = rw (money-middle k (omega arith) l) at (bounds .1)
+      go (no a) (no b) = bounds 0 100000000 (λ e. omega arith) (money-middle k (omega arith) l) .1
 
   pub initial-some : 22 ≤ k → k < 29 → 1 ≤ field s k
-  initial-some g l = rw (initial-at k g l) at (bounds .0)
+  initial-some g l = bounds 1 1000000000 (λ e. omega arith) (initial-at k g l) .0
 
   pub initial-most : 22 ≤ k → k < 29 → field s k ≤ 1000000000
-  initial-most g l = rw (initial-at k g l) at (bounds .1)
+  initial-most g l = bounds 1 1000000000 (λ e. omega arith) (initial-at k g l) .1
 
   pub current-most : 29 ≤ k → k < 36 → field s k ≤ 1000000000
-  current-most g l = rw (current-at k g l) at (bounds .1)
+  current-most g l = bounds 0 1000000000 (λ e. omega arith) (current-at k g l) .1
 
-  -- SMNCC and NC, fields 36 to 92
-  pub money-most : 36 ≤ k → k < 93 → field s k ≤ 100000000
-  money-most g l = rw (money-last k g l) at (bounds .1)
+  -- NC, fields 37 to 92
+  pub money-most : 37 ≤ k → k < 93 → field s k ≤ 100000000
+  money-most g l = bounds 0 100000000 (λ e. omega arith) (money-last k g l) .1
 
   pub level-some : 93 ≤ k → k < 95 → 1 ≤ field s k
-  level-some g l = rw (level-at k g l) at (bounds .0)
+  level-some g l = bounds 1 20000 (λ e. omega arith) (level-at k g l) .0
 
   pub level-most : 93 ≤ k → k < 95 → field s k ≤ 20000
-  level-most g l = rw (level-at k g l) at (bounds .1)
+  level-most g l = bounds 1 20000 (λ e. omega arith) (level-at k g l) .1
+
+-- SMNCC, field 36
+pub smncc-bounds : {n : ℕ} (s : List ℕ) → Ranged n s → smnccField < n → (negℤ (pos 100000000) ≤ℤ smncc s) × (smncc s ≤ℤ pos 100000000)
+unfolding valueOf
+smncc-bounds s h there = net-cost-bounds (field s smnccField) (h .ranges smnccField there)
+
+mag-most : (z : ℤ) → negℤ (pos 100000000) ≤ℤ z → z ≤ℤ pos 100000000 → mag z ≤ 100000000
+mag-most (pos n) low high = leb→le n 100000000 (high .le)
+mag-most (negsuc n) low high = omega (arith, leb→le n 99999999 (low .le))
+
+pub smncc-mag : {n : ℕ} (s : List ℕ) → Ranged n s → smnccField < n → mag (smncc s) ≤ 100000000
+smncc-mag s h there = let b = smncc-bounds s h there in mag-most (smncc s) (b .0) (b .1)
 
 -- four tests that hold together
 four-parts : (a b c d : Bool) → (a && b && c && d) ≡ true → (a ≡ true) × (b ≡ true) × (c ≡ true) × (d ≡ true)

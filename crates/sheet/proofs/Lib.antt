@@ -1,3 +1,4 @@
+pub mod Words
 pub mod Ranges
 pub mod Bounds
 pub mod Round

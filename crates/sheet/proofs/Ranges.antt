@@ -1,14 +1,17 @@
 -- The range of a field, by its number.
 -- Assumes nothing.
-use mathlib.Core.Path.{_≡_, sym}
-use mathlib.Core.Bool.{true, false}
+use mathlib.Core.Path.{_≡_}
+use mathlib.Core.Bool.{Bool, true, false, _&&_}
 use Prim.Native.Nat.{ℕ, _<_, _≤_}
 use native.Mathlib.Omega.{arith}
 use lib.Dec.{leb}
+use lib.IntN.{ℤ, pos, negℤ}
+use lib.Signed.{leZ, _≤ℤ_, leZ-yes}
 use borrow.Author.Tests.{le-leb, lt-leb, leb-true}
 use Rattle.laws.proofs.Every.{and-left, and-right}
 use Rattle.sheet.specs.declared.Range.{Range}
-use Rattle.sheet.specs.Sheet.{rangeOf, fieldInRange, money, ppm, initialIndex, currentIndex, level, nothing}
+use Rattle.sheet.specs.Sheet.{smnccField, signed, valueOf, rangeOf, fieldInRange, money, netCost, ppm, initialIndex, currentIndex, level, nothing}
+use Rattle.sheet.proofs.Words.{plain-value}
 
 module _ (k : ℕ) where
   pub money-first : k < 16 → rangeOf k ≡ money
@@ -33,38 +36,51 @@ module _ (k : ℕ) where
       simp
       (lt-leb k 15 (omega arith), lt-leb k 19 (omega arith), lt-leb k 21 (omega arith), lt-leb k 28 l, le-leb k 35 (omega arith))
 
-  pub money-last : 36 ≤ k → k < 93 → rangeOf k ≡ money
+  pub money-last : 37 ≤ k → k < 93 → rangeOf k ≡ money
   unfolding rangeOf
   money-last l h =
       simp
-      (lt-leb k 15 (omega arith), lt-leb k 19 (omega arith), lt-leb k 21 (omega arith), lt-leb k 28 (omega arith), lt-leb k 35 l, le-leb k 92 (omega arith))
+      (lt-leb k 15 (omega arith), lt-leb k 19 (omega arith), lt-leb k 21 (omega arith), lt-leb k 28 (omega arith), lt-leb k 35 (omega arith), lt-leb k 36 l, le-leb k 92 (omega arith))
+
+  pub net-cost-at : k ≡ 36 → rangeOf k ≡ netCost
+  unfolding rangeOf
+  net-cost-at e = rw e
 
   pub level-at : 93 ≤ k → k < 95 → rangeOf k ≡ level
   unfolding rangeOf
   level-at l h =
       simp
-      (lt-leb k 15 (omega arith), lt-leb k 19 (omega arith), lt-leb k 21 (omega arith), lt-leb k 28 (omega arith), lt-leb k 35 (omega arith), lt-leb k 92 l, le-leb k 94 (omega arith))
+      (lt-leb k 15 (omega arith), lt-leb k 19 (omega arith), lt-leb k 21 (omega arith), lt-leb k 28 (omega arith), lt-leb k 35 (omega arith), lt-leb k 36 (omega arith), lt-leb k 92 l, le-leb k 94 (omega arith))
 
   pub nothing-past : 95 ≤ k → rangeOf k ≡ nothing
   unfolding rangeOf
   nothing-past l =
       simp
-      (lt-leb k 15 (omega arith), lt-leb k 19 (omega arith), lt-leb k 21 (omega arith), lt-leb k 28 (omega arith), lt-leb k 35 (omega arith), lt-leb k 92 (omega arith), lt-leb k 94 l)
+      (lt-leb k 15 (omega arith), lt-leb k 19 (omega arith), lt-leb k 21 (omega arith), lt-leb k 28 (omega arith), lt-leb k 35 (omega arith), lt-leb k 36 (omega arith), lt-leb k 92 (omega arith), lt-leb k 94 l)
 
--- what the test of a field says
-pub in-range-bounds : (k x : ℕ) → fieldInRange k x ≡ true → (rangeOf k .low ≤ x) × (x ≤ rangeOf k .high)
+-- what the test of a field but 36 says
+pub plain-bounds :
+    (k word low high : ℕ) → (k ≡ smnccField → ⊥) → rangeOf k ≡ record { low = pos low; high = pos high } → fieldInRange k word ≡ true
+    → (low ≤ word) × (word ≤ high)
 unfolding fieldInRange
-in-range-bounds k x e = (
-  leb-true (rangeOf k .low) x (and-left (leb (rangeOf k .low) x) (leb x (rangeOf k .high)) e),
-  leb-true x (rangeOf k .high) (and-right (leb (rangeOf k .low) x) (leb x (rangeOf k .high)) e),
-)
+plain-bounds k word low high h range e =
+    let both : (leb low word && leb word high) ≡ true = rw (range, plain-value k word h) at e in
+    (leb-true low word (and-left (leb low word) (leb word high) both), leb-true word high (and-right (leb low word) (leb word high) both))
 
--- the test made with a range that is the field's
-module _ (k x : ℕ) (r : Range) (e : r ≡ rangeOf k) where
-  pub in-range-yes : r .low ≤ x → leb x (r .high) ≡ fieldInRange k x
-  unfolding fieldInRange
-  in-range-yes h = rw (← e) (sym (simp (le-leb (r .low) x h)))
+-- and that of field 36
+pub net-cost-bounds : (word : ℕ) → fieldInRange smnccField word ≡ true → (negℤ (pos 100000000) ≤ℤ signed word) × (signed word ≤ℤ pos 100000000)
+unfolding fieldInRange rangeOf valueOf
+net-cost-bounds word e =
+    let low : Bool = leZ (negℤ (pos 100000000)) (signed word) in
+    let high : Bool = leZ (signed word) (pos 100000000) in
+    (leZ-yes (rw (and-left low high e) tt), leZ-yes (rw (and-right low high e) tt))
 
-  pub in-range-no : x < r .low → false ≡ fieldInRange k x
+-- the test made with a range that is the field's, of the number that the word stands for
+module _ (k word : ℕ) (r : Range) (value : ℤ) (e : r ≡ rangeOf k) (v : value ≡ valueOf k word) where
+  pub in-range-yes : leZ (r .low) value ≡ true → leZ value (r .high) ≡ fieldInRange k word
   unfolding fieldInRange
-  in-range-no h = rw (← e) (sym (simp (lt-leb (r .low) x h)))
+  in-range-yes h = rw (← e, ← v, h)
+
+  pub in-range-no : leZ (r .low) value ≡ false → leZ (r .low) value ≡ fieldInRange k word
+  unfolding fieldInRange
+  in-range-no h = rw (← e, ← v, h)

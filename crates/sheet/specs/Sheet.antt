@@ -1,9 +1,11 @@
--- "The cost sheet" of document 01, and its indexed terms.
+-- "The cost sheet" of document 01, and its indexed terms; field 36 as document 02's M-102 has it.
 -- Assumes nothing.
 use mathlib.Core.Bool.{Bool, cond, _&&_}
 use mathlib.Core.List.{List}
 use Prim.Native.Nat.{ℕ, _+_, _*_, _/_}
-use lib.Dec.{leb}
+use lib.Dec.{leb, ltb, eqb}
+use lib.IntN.{ℤ, pos, negℤ, _+ℤ_, _-ℤ_, _*ℤ_}
+use lib.Signed.{leZ, shrZ}
 use lib.ListN.{getD}
 use Rattle.laws.specs.Notions.{every}
 use Rattle.sheet.specs.declared.Range.{Range}
@@ -15,28 +17,45 @@ fieldCount = 95
 abbrev pub field : List ℕ → ℕ → ℕ
 field s k = getD s k 0
 
--- money, parts per million, an initial and a current index, a consumption level m
+-- M-102: field 36, SMNCC, "is a signed number in two's complement": of 32 bits, a word from 2^31 up stands for itself less 2^32
+abbrev pub smnccField : ℕ
+smnccField = 36
+
+unfoldable pub signed : ℕ → ℤ
+signed word = cond (ltb word 2147483648) (pos word) (pos word -ℤ pos 4294967296)
+
+-- the number that the word handed in for a field stands for: in every other field the word itself
+unfoldable pub valueOf : ℕ → ℕ → ℤ
+valueOf k word = cond (eqb k smnccField) (signed word) (pos word)
+
+abbrev pub smncc : List ℕ → ℤ
+smncc s = valueOf smnccField (field s smnccField)
+
+-- money, a net cost or saving, parts per million, an initial and a current index, a consumption level m
 abbrev pub money : Range
-money = record { low = 0; high = 100000000 }
+money = record { low = pos 0; high = pos 100000000 }
+
+abbrev pub netCost : Range
+netCost = record { low = negℤ (pos 100000000); high = pos 100000000 }
 
 abbrev pub ppm : Range
-ppm = record { low = 0; high = 1000000 }
+ppm = record { low = pos 0; high = pos 1000000 }
 
 abbrev pub initialIndex : Range
-initialIndex = record { low = 1; high = 1000000000 }
+initialIndex = record { low = pos 1; high = pos 1000000000 }
 
 abbrev pub currentIndex : Range
-currentIndex = record { low = 0; high = 1000000000 }
+currentIndex = record { low = pos 0; high = pos 1000000000 }
 
 abbrev pub level : Range
-level = record { low = 1; high = 20000 }
+level = record { low = pos 1; high = pos 20000 }
 
 -- no value at all, for a number that is no field's
 abbrev pub nothing : Range
-nothing = record { low = 1; high = 0 }
+nothing = record { low = pos 1; high = pos 0 }
 
 -- "The range of a field follows from its number": 0-15 money, 16-19 ppm, 20 and 21 money, 22-28 initial, 29-35 current,
--- 36-92 money, 93 and 94 m
+-- 36 a net cost, 37-92 money, 93 and 94 m
 unfoldable pub rangeOf : ℕ → Range
 rangeOf k =
     cond (leb k 15) money
@@ -44,10 +63,11 @@ rangeOf k =
     (cond (leb k 21) money
     (cond (leb k 28) initialIndex
     (cond (leb k 35) currentIndex
-    (cond (leb k 92) money (cond (leb k 94) level nothing))))))
+    (cond (leb k 36) netCost
+    (cond (leb k 92) money (cond (leb k 94) level nothing)))))))
 
 unfoldable pub fieldInRange : ℕ → ℕ → Bool
-fieldInRange k x = leb (rangeOf k .low) x && leb x (rangeOf k .high)
+fieldInRange k word = leZ (rangeOf k .low) (valueOf k word) && leZ (valueOf k word) (rangeOf k .high)
 
 -- no field is outside its range
 unfoldable pub fieldsInRange : List ℕ → Bool
@@ -56,6 +76,11 @@ fieldsInRange s = every fieldCount (λ k. fieldInRange k (field s k))
 -- "Round(n, d)" is n / d to the nearest whole, halves up (proofs/Round.antt, `round-nearest`)
 unfoldable pub round : ℕ → ℕ → ℕ
 round n d = (2 * n + d) / (2 * d)
+
+-- the same of a signed n: `shrZ` is the quotient rounded down. No sheet that SET accepts has it of an n below zero
+-- (benchmark/specs/Signs.antt)
+unfoldable pub roundSigned : ℤ → ℕ → ℤ
+roundSigned n d = shrZ (pos 2 *ℤ n +ℤ pos d) (2 * d)
 
 -- "An indexed term is Round(baseline × current, initial)", each given by its field
 unfoldable pub indexed : List ℕ → ℕ → ℕ → ℕ → ℕ

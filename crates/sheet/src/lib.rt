@@ -6,13 +6,13 @@ ghost use mathlib.Core.Path.{_≡_};
 ghost use mathlib.Core.Bool.{true};
 ghost use Prim.Native.Nat.{_+_, _*_, _≤_, _<_};
 ghost use lib.ListN.{length};
-ghost use Rattle.sheet.specs.Sheet.{rangeOf, fieldInRange, fieldsInRange, round, indexed, dfTerm, cmTerm, pcTerm, ocTerm, paacTerm, fourFit, paacFits, termsFit};
+ghost use Rattle.sheet.specs.Sheet.{rangeOf, valueOf, smncc, fieldInRange, fieldsInRange, round, indexed, dfTerm, cmTerm, pcTerm, ocTerm, paacTerm, fourFit, paacFits, termsFit};
 ghost use Rattle.sheet.specs.CommonFields.{commonCount};
 ghost use Rattle.sheet.specs.Ranged.{Ranged};
 
 pub struct Range {
-    pub low: u32,
-    pub high: u32,
+    pub low: i64,
+    pub high: i64,
 }
 
 // The range of a field follows from its number. Past 94 there is no field, and no value is allowed.
@@ -20,8 +20,12 @@ pub fn range_of(number: usize) -> Range
     ensures { λ r. ⌜ r ≡ rangeOf number ⌝ }
 {
     match number {
-        0..=15 | 20..=21 | 36..=92 => Range {
+        0..=15 | 20..=21 | 37..=92 => Range {
             low: 0,
+            high: 100_000_000,
+        },
+        36 => Range {
+            low: -100_000_000,
             high: 100_000_000,
         },
         16..=19 => Range {
@@ -44,11 +48,23 @@ pub fn range_of(number: usize) -> Range
     }
 }
 
-fn field_in_range(number: usize, x: u32) -> bool
-    ensures { λ r. ⌜ r ≡ fieldInRange number x ⌝ }
+// The number that a word stands for: two's complement in field 36, the word itself in every other.
+fn value_of(number: usize, word: u32) -> i64
+    ensures { λ r. ⌜ r ≡ valueOf number word ⌝ }
+{
+    if number == 36 && word >= 2_147_483_648 {
+        word as i64 - 4_294_967_296
+    } else {
+        word as i64
+    }
+}
+
+fn field_in_range(number: usize, word: u32) -> bool
+    ensures { λ r. ⌜ r ≡ fieldInRange number word ⌝ }
 {
     let r = range_of(number);
-    r.low <= x && x <= r.high
+    let value = value_of(number, word);
+    r.low <= value && value <= r.high
 }
 
 // Whether each of the 95 fields is in its range.
@@ -79,6 +95,14 @@ pub fn wide(x: u32) -> u64
     ensures { λ r. ⌜ r ≡ x ⌝ }
 {
     x as u64
+}
+
+// SMNCC, the number that field 36 stands for.
+pub fn smncc_of(part: &[u32]) -> i64
+    requires { ⌜ Ranged commonCount (now part) ⌝ }
+    ensures { λ r. ⌜ r ≡ smncc (now (part .entry)) ⌝ }
+{
+    value_of(36, part[36])
 }
 
 // An indexed term: Round(baseline × current, initial), each given by its field number. It is lent the common fields, 0 to 36.

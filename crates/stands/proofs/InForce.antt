@@ -8,6 +8,7 @@ use native.Mathlib.Omega.{arith}
 use lib.ListN.{getD}
 use Rattle.laws.proofs.Never.{never}
 use Rattle.refusal.specs.declared.Check.the-variants.{Pass}
+use Rattle.benchmark.specs.Benchmark.{setCheck}
 use Rattle.benchmark.specs.Lawful.{Lawful}
 use Rattle.benchmark.proofs.Lawful.{lawful}
 use Rattle.tariff.specs.declared.Tariff.{Tariff}
@@ -34,8 +35,11 @@ module _ (b : Book) (from : Reachable b) where
     pub figures-are : b .benchmarks ≡ figuresOf (sheetIn b)
     figures-are = reachable-stands b from .with-sheet loaded .1
 
+    pub sheet-passed : setCheck (b .fields) (b .period) ≡ Pass
+    sheet-passed = reachable-stands b from .with-sheet loaded .0
+
     pub figures-lawful : Lawful (b .benchmarks)
-    figures-lawful = subst Lawful (sym figures-are) (lawful (b .fields) (b .period) (reachable-stands b from .with-sheet loaded .0))
+    figures-lawful = subst Lawful (sym figures-are) (lawful (b .fields) (b .period) sheet-passed)
 
   holds : (s : Option Sheet) (q : State) (p : Place) → MayStandAs s q p → HoldsValidAs q (tariffIn p)
   holds s Empty p f = tt

@@ -50,7 +50,7 @@ fn fallen(before: [Place; 32], after: [Place; 32]) -> u32
     codes as u32
 }
 
-// TRIAL (sheet, period). 1 to 5. Else the codes that SET would make drafts.
+// TRIAL (sheet, period). 1 to 4, 14, 5. Else the codes that SET would make drafts.
 pub fn trial(b: Book, fields: &[u32], period: Period) -> Told
     requires { ⌜ Reachable b ⌝ }
     ensures { λ r. ⌜ tellingOf r ≡ trialOf b (sheetAt (now (fields .entry)) period) ⌝ }

@@ -4,7 +4,7 @@ use mathlib.Core.Path.{_≡_, refl}
 use mathlib.Core.List.{[], _∷_}
 use Rattle.laws.specs.Notions.{tabulate, tabulateFrom}
 use Rattle.calendar.specs.Calendar.{periodDays, monthBegins, lengthAt, monthLength, leapYear}
-use Rattle.sheet.specs.Sheet.{round, indexed}
+use Rattle.sheet.specs.Sheet.{signed, valueOf, round, roundSigned, indexed}
 use Rattle.benchmark.specs.declared.Benchmarks.{Benchmarks}
 use Rattle.benchmark.specs.Benchmark.{benchmark, wc, pc, oc, nc, paenc, headroom, panc, figure, figures, benchmarksOf}
 use Rattle.unlike.specs.SheetU.{networks, sheetU, periodU}
@@ -33,5 +33,5 @@ known =
     }
 
 pub is-known : benchmarksOf sheetU periodU ≡ known
-unfolding benchmarksOf figures figure tabulate tabulateFrom benchmark wc pc oc nc paenc headroom panc indexed round sheetU networks periodDays monthBegins lengthAt monthLength leapYear known
+unfolding benchmarksOf figures figure tabulate tabulateFrom benchmark wc pc oc nc paenc headroom panc valueOf signed indexed round roundSigned sheetU networks periodDays monthBegins lengthAt monthLength leapYear known
 is-known = refl

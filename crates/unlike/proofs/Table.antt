@@ -9,8 +9,8 @@ use lib.IntN.{pos}
 use Rattle.laws.proofs.Pieces.{scan}
 use Rattle.laws.specs.Notions.{every, sum, total, tabulate, tabulateFrom, bit}
 use Rattle.calendar.specs.Calendar.{periodDays, periodInRange, monthBegins, lengthAt, monthLength, leapYear}
-use Rattle.sheet.specs.Sheet.{rangeOf, fieldInRange, fieldsInRange, round, indexed, fourFit, paacFits, termsFit}
-use Rattle.benchmark.specs.Benchmark.{benchmark, wc, pc, oc, nc, paenc, headroom, panc, figure, figures, ordered, setCheck, benchmarksOf}
+use Rattle.sheet.specs.Sheet.{signed, valueOf, rangeOf, fieldInRange, fieldsInRange, round, roundSigned, indexed, fourFit, paacFits, termsFit}
+use Rattle.benchmark.specs.Benchmark.{benchmark, wc, pc, oc, nc, paenc, headroom, panc, figure, figures, ocsFit, ordered, setCheck, benchmarksOf}
 use Rattle.benchmark.specs.Common.{costsAt, sumFrom, common, commonAt, commons}
 use Rattle.tariff.specs.Tariff.{tariffOf, recordCheck, validTariff, validKind, singleRegister, economy7, multiRegister, ratesWithin, zeroFrom, within, rising}
 use Rattle.charge.specs.Charge.{arrangement, tierCharge, weighted, monthCharge, charge}
@@ -51,7 +51,7 @@ computed =
 
 -- THE TABLE
 pub unlike : Unlike
-unfolding commons commonAt common sumFrom costsAt setCheck fieldsInRange fieldInRange rangeOf every sum termsFit fourFit paacFits ordered periodInRange figures figure tabulate tabulateFrom benchmark wc pc oc nc paenc headroom panc indexed round sheetU networks loneField lonePair periodDays monthBegins lengthAt monthLength leapYear recordCheck validTariff validKind singleRegister economy7 multiRegister ratesWithin zeroFrom within rising
+unfolding commons commonAt common sumFrom costsAt setCheck fieldsInRange fieldInRange valueOf signed rangeOf every sum termsFit fourFit paacFits ocsFit ordered periodInRange figures figure tabulate tabulateFrom benchmark wc pc oc nc paenc headroom panc indexed round roundSigned sheetU networks loneField lonePair periodDays monthBegins lengthAt monthLength leapYear recordCheck validTariff validKind singleRegister economy7 multiRegister ratesWithin zeroFrom within rising
 unlike =
     record {
       accepted = refl;

@@ -6,7 +6,8 @@ use mathlib.Core.List.{List, [], _∷_}
 use Prim.Native.Nat.{ℕ, _/_, _%_}
 use lib.Dec.{eqb}
 use lib.IntN.{pos}
-use Rattle.laws.specs.Notions.{every, tabulate}
+use lib.ListN.{getD}
+use Rattle.laws.specs.Notions.{every}
 use Rattle.refusal.specs.declared.Check.{Check}
 use Rattle.refusal.specs.declared.Check.the-variants.{Pass, Refuse}
 use Rattle.calendar.specs.Calendar.{periodDays}
@@ -15,11 +16,12 @@ use Rattle.benchmark.specs.Benchmark.{wc, pc, oc, paenc, headroom, nc, panc, be
 use Rattle.benchmark.specs.Common.{commons}
 use Rattle.tariff.specs.Tariff.{tariffOf, recordCheck}
 use Rattle.verdict.specs.Cells.{cell, Verdict, opens, over, verdict}
+use Rattle.reference.specs.Starred.{isWhole}
 use Rattle.unlike.specs.SheetU.{sheetU, periodU, threeTiers, peakAt, threeRegisters, allInOne, lonePair}
 
--- the eight figures of a region, by arrangement, method and level
-abbrev pub eightOf : ℕ → List ℕ
-eightOf region = tabulate 8 (λ j. benchmark sheetU region (j / 4) (j / 2 % 2) (j % 2))
+-- whether these are the eight figures of a region, by arrangement, method and level
+abbrev pub eightAre : ℕ → List ℕ → Bool
+eightAre region charges = every 8 (λ j. isWhole (benchmark sheetU region (j / 4) (j / 2 % 2) (j % 2)) (getD charges j 0))
 
 -- the verdict on a record
 abbrev pub verdictOn : List ℕ → Verdict
@@ -35,12 +37,12 @@ pub record Unlike : Type 0 where
   pub days : periodDays periodU ≡ 60
   -- the eight sums, and one figure traced: WC, PC and OC of single-rate at m, PAENC and H by Standard Credit, NC and PANC of region 0
   pub sums : commons (commonFields sheetU) ≡ 9176014 ∷ 56333521 ∷ 8680346 ∷ 55051895 ∷ 10638546 ∷ 64664326 ∷ 10116806 ∷ 63242157 ∷ []
-  pub costs-traced : (wc sheetU 1 ≡ 35675000) × (pc sheetU 1 ≡ 8532710) × (oc sheetU 1 ≡ 10062840)
-  pub shares-traced : (paenc sheetU 0 54270550 ≡ 1505213) × (headroom sheetU 0 55775763 ≡ 557758)
-  pub network-traced : (nc sheetU 0 1 ≡ 12400000) × (panc sheetU 0 12400000 ≡ 248000)
+  pub costs-traced : (wc sheetU 1 ≡ pos 35675000) × (pc sheetU 1 ≡ pos 8532710) × (oc sheetU 1 ≡ pos 10062840)
+  pub shares-traced : (paenc sheetU 0 (pos 54270550) ≡ pos 1505213) × (headroom sheetU 0 (pos 55775763) ≡ pos 557758)
+  pub network-traced : (nc sheetU 0 1 ≡ pos 12400000) × (panc sheetU 0 (pos 12400000) ≡ pos 248000)
   -- the first region and the last
-  pub first-region : eightOf 0 ≡ 11420014 ∷ 68981521 ∷ 10886946 ∷ 67489095 ∷ 12780546 ∷ 77414326 ∷ 12223106 ∷ 75779657 ∷ []
-  pub last-region : eightOf 13 ≡ 11287321 ∷ 68583575 ∷ 10756465 ∷ 67097782 ∷ 13046024 ∷ 77945243 ∷ 12484160 ∷ 76301726 ∷ []
+  pub first-region : eightAre 0 (11420014 ∷ 68981521 ∷ 10886946 ∷ 67489095 ∷ 12780546 ∷ 77414326 ∷ 12223106 ∷ 75779657 ∷ []) ≡ true
+  pub last-region : eightAre 13 (11287321 ∷ 68583575 ∷ 10756465 ∷ 67097782 ∷ 13046024 ∷ 77945243 ∷ 12484160 ∷ 76301726 ∷ []) ≡ true
   -- three tiers: over in region 9 and not in 4, most at the second step
   pub tiers-over : verdictOn (threeTiers 27000) ≡ over (cell 9 0) (400 ∷ 400 ∷ []) (pos 54991800000)
   pub tiers-within : verdictOn (threeTiers 26000) ≡ opens 2

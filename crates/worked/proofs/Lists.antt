@@ -18,7 +18,7 @@ use Rattle.book.specs.Checks.{figuresOf, complies, verdictAnswer, setAnswer, an
 use Rattle.history.specs.History.{readings, answersAfter}
 use Rattle.laws.specs.Notions.{every, sum, total, tabulate, tabulateFrom, bit}
 use Rattle.calendar.specs.Calendar.{periodDays, monthBegins, lengthAt, monthLength, leapYear}
-use Rattle.sheet.specs.Sheet.{round, indexed}
+use Rattle.sheet.specs.Sheet.{signed, valueOf, round, roundSigned, indexed}
 use Rattle.charge.specs.Charge.{arrangement, tierCharge, charge}
 use Rattle.cap.specs.Cap.{maximum, charged, capped}
 use Rattle.book.specs.Book.{fresh, bookAfter, step, changed}
@@ -81,7 +81,7 @@ two-calls = rw (starred .accepted, starred .records .1)
 
 quote-told : quoteOf (changed (changed fresh (SET quarter)) (PUT 7 steep)) 7 0 1 (300 ∷ 0 ∷ 0 ∷ [])
     ≡ quotation (record { charge = 24624000000000; maximum = 27970470000000 })
-unfolding quoteOf cellAllowed monthsAllowed every offered bit cellNumbers arrangement tierCharge charge maximum charged capped sum total benchmarksOf figures figure tabulate tabulateFrom benchmark wc pc oc nc paenc headroom panc indexed round sheetS times periodDays monthBegins lengthAt monthLength leapYear
+unfolding quoteOf cellAllowed monthsAllowed every offered bit cellNumbers arrangement tierCharge charge maximum charged capped sum total benchmarksOf figures figure tabulate tabulateFrom benchmark wc pc oc nc paenc headroom panc valueOf signed indexed round roundSigned sheetS times periodDays monthBegins lengthAt monthLength leapYear
 quote-told = refl
 
 -- THE LISTS

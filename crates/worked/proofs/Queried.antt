@@ -3,7 +3,7 @@
 use mathlib.Core.Path.{_≡_, refl, sym, subst₂}
 use Rattle.laws.specs.Notions.{every, sum, total, tabulate, tabulateFrom, bit}
 use Rattle.calendar.specs.Calendar.{periodDays, monthBegins, lengthAt, monthLength, leapYear}
-use Rattle.sheet.specs.Sheet.{round, indexed}
+use Rattle.sheet.specs.Sheet.{signed, valueOf, round, roundSigned, indexed}
 use Rattle.benchmark.specs.Benchmark.{benchmark, wc, pc, oc, nc, paenc, headroom, panc, figure, figures, benchmarksOf}
 use Rattle.charge.specs.Charge.{arrangement, tierCharge, weighted, charge}
 use Rattle.cap.specs.Cap.{maximum, charged, capped}
@@ -32,7 +32,7 @@ unfolding bookAfter step
 after-one = rw (unlike .records .2)
 
 computed : Queried two bare
-unfolding benchmarkOf maximumOf quoteOf cellAllowed monthsAllowed every offered bit cellNumbers arrangement tierCharge weighted charge maximum charged capped sum total benchmarksOf figures figure tabulate tabulateFrom benchmark wc pc oc nc paenc headroom panc indexed round sheetU networks periodDays monthBegins lengthAt monthLength leapYear
+unfolding benchmarkOf maximumOf quoteOf cellAllowed monthsAllowed every offered bit cellNumbers arrangement tierCharge weighted charge maximum charged capped sum total benchmarksOf figures figure tabulate tabulateFrom benchmark wc pc oc nc paenc headroom panc valueOf signed indexed round roundSigned sheetU networks periodDays monthBegins lengthAt monthLength leapYear
 computed =
     record {
       benchmark-refused = (refl, refl);

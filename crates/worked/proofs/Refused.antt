@@ -3,8 +3,8 @@
 use mathlib.Core.Path.{refl}
 use Rattle.laws.specs.Notions.{every, sum, tabulate, tabulateFrom}
 use Rattle.calendar.specs.Calendar.{periodInRange}
-use Rattle.sheet.specs.Sheet.{rangeOf, fieldInRange, fieldsInRange, round, indexed, fourFit, paacFits, termsFit}
-use Rattle.benchmark.specs.Benchmark.{benchmark, wc, pc, oc, nc, paenc, headroom, panc, figure, figures, ordered, setCheck}
+use Rattle.sheet.specs.Sheet.{signed, valueOf, rangeOf, fieldInRange, fieldsInRange, round, roundSigned, indexed, fourFit, paacFits, termsFit}
+use Rattle.benchmark.specs.Benchmark.{benchmark, wc, pc, oc, nc, paenc, headroom, panc, figure, figures, ocsFit, ordered, setCheck}
 use Rattle.tariff.specs.Tariff.{recordCheck, validTariff, validKind, singleRegister, economy7, multiRegister, ratesWithin, zeroFrom, within, rising}
 use Rattle.history.specs.History.{answersAfter}
 use Rattle.reference.specs.SheetS.{sheetS, times}
@@ -12,12 +12,16 @@ use Rattle.unlike.specs.SheetU.{loneField, lonePair}
 use Rattle.worked.specs.Refusals.{Refusals}
 
 pub refusals : Refusals
-unfolding answersAfter setCheck fieldsInRange fieldInRange rangeOf every sum termsFit fourFit paacFits ordered periodInRange figures figure tabulate tabulateFrom benchmark wc pc oc nc paenc headroom panc indexed round sheetS times loneField lonePair recordCheck validTariff validKind singleRegister economy7 multiRegister ratesWithin zeroFrom within rising
+unfolding answersAfter setCheck fieldsInRange fieldInRange valueOf signed rangeOf every sum termsFit fourFit paacFits ocsFit ordered periodInRange figures figure tabulate tabulateFrom benchmark wc pc oc nc paenc headroom panc indexed round roundSigned sheetS times loneField lonePair recordCheck validTariff validKind singleRegister economy7 multiRegister ratesWithin zeroFrom within rising
 refusals =
     record {
       set-ranges = refl;
       set-periods = refl;
       set-terms = refl;
+      set-smncc = refl;
+      set-ocs = refl;
+      both-fail = (refl, refl, refl, refl);
+      set-between = refl;
       put-steps = refl;
       put-shares = refl;
       empty-place = refl;

@@ -8,8 +8,8 @@ use lib.ListN.{set, replicate}
 use Rattle.laws.specs.Notions.{every, sum, tabulate, tabulateFrom, setOf}
 use Rattle.refusal.specs.declared.Check.the-variants.{Pass, Refuse}
 use Rattle.calendar.specs.Calendar.{periodInRange}
-use Rattle.sheet.specs.Sheet.{rangeOf, fieldInRange, fieldsInRange, round, indexed, fourFit, paacFits, termsFit}
-use Rattle.benchmark.specs.Benchmark.{benchmark, wc, pc, oc, nc, paenc, headroom, panc, figure, figures, ordered, setCheck}
+use Rattle.sheet.specs.Sheet.{signed, valueOf, rangeOf, fieldInRange, fieldsInRange, round, roundSigned, indexed, fourFit, paacFits, termsFit}
+use Rattle.benchmark.specs.Benchmark.{benchmark, wc, pc, oc, nc, paenc, headroom, panc, figure, figures, ocsFit, ordered, setCheck}
 use Rattle.tariff.specs.declared.Tariff.{Tariff}
 use Rattle.tariff.specs.Tariff.{tariffOf}
 use Rattle.verdict.specs.Cells.{Verdict, verdict}
@@ -30,7 +30,7 @@ use Rattle.unlike.specs.SheetU.{loneField, lonePair}
 use Rattle.worked.proofs.October.{october-accepted, october-low, october-close, close-record}
 use Rattle.worked.proofs.Lists.{isOpening, complying, passed, quarter-set, low-put, low-opens}
 use Rattle.worked.specs.Worked.{quarter, october, noFields, low, close}
-use Rattle.worked.specs.Refusals.{withField, forPeriod, bothWrong, unordered}
+use Rattle.worked.specs.Refusals.{withField, forPeriod, bothWrong, unordered, saving, termAndOc, ocAndOrder}
 use Rattle.worked.specs.Tried.{twoOpen, threeOpen, oneClosed, Tried}
 
 -- a list of accepted calls, and the book that it leaves
@@ -87,9 +87,9 @@ abbrev RefusedBy : Sheet → ℕ → Type 0
 RefusedBy s n = setCheck (s .fields) (s .period) ≡ Refuse n
 
 refused-sheets : RefusedBy noFields 1 × RefusedBy (withField 94 0) 2 × RefusedBy bothWrong 2 × RefusedBy (forPeriod 2023 13 1) 3
-    × RefusedBy (withField 20 100000000) 4 × RefusedBy unordered 5
-unfolding setCheck fieldsInRange fieldInRange rangeOf every sum termsFit fourFit paacFits ordered periodInRange figures figure tabulate tabulateFrom benchmark wc pc oc nc paenc headroom panc indexed round sheetS times loneField lonePair
-refused-sheets = (refl, refl, refl, refl, refl, refl)
+    × RefusedBy (withField 20 100000000) 4 × RefusedBy termAndOc 4 × RefusedBy (saving 5250001) 14 × RefusedBy ocAndOrder 14 × RefusedBy unordered 5
+unfolding setCheck fieldsInRange fieldInRange valueOf signed rangeOf every sum termsFit fourFit paacFits ocsFit ordered periodInRange figures figure tabulate tabulateFrom benchmark wc pc oc nc paenc headroom panc indexed round roundSigned sheetS times loneField lonePair
+refused-sheets = (refl, refl, refl, refl, refl, refl, refl, refl, refl)
 
 -- THE TRIALS
 pub tried : Tried
@@ -113,6 +113,7 @@ tried =
       refused-1 = trial-refused twoOpen noFields 1 (refused-sheets .0);
       refused-2 = (trial-refused twoOpen (withField 94 0) 2 (refused-sheets .1), trial-refused twoOpen bothWrong 2 (refused-sheets .2));
       refused-3 = trial-refused twoOpen (forPeriod 2023 13 1) 3 (refused-sheets .3);
-      refused-4 = trial-refused twoOpen (withField 20 100000000) 4 (refused-sheets .4);
-      refused-5 = trial-refused twoOpen unordered 5 (refused-sheets .5);
+      refused-4 = (trial-refused twoOpen (withField 20 100000000) 4 (refused-sheets .4), trial-refused twoOpen termAndOc 4 (refused-sheets .5));
+      refused-14 = (trial-refused twoOpen (saving 5250001) 14 (refused-sheets .6), trial-refused twoOpen ocAndOrder 14 (refused-sheets .7));
+      refused-5 = trial-refused twoOpen unordered 5 (refused-sheets .8);
     }

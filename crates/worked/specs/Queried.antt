@@ -2,6 +2,7 @@
 -- Assumes nothing.
 use mathlib.Core.Path.{_≡_}
 use mathlib.Core.List.{[], _∷_}
+use lib.IntN.{pos}
 use Rattle.book.specs.declared.Book.{Book}
 use Rattle.book.specs.Calls.{sheetAt, SET, PUT}
 use Rattle.queries.specs.Queries.{refused, benchmarkCharge, maximumCharge, quotation, benchmarkOf, maximumOf, quoteOf}
@@ -20,7 +21,7 @@ pub record Queried (two bare : Book) : Type 0 where
   -- BENCHMARK and MAXIMUM: 13 before 10; a total of 120,000 is inside its range
   pub benchmark-refused : (benchmarkOf bare 14 0 0 0 ≡ refused 13) × (benchmarkOf bare 0 0 0 0 ≡ refused 10)
   pub maximum-refused : (maximumOf bare 0 0 0 120001 ≡ refused 13) × (maximumOf bare 0 0 0 120000 ≡ refused 10)
-  pub benchmark-given : benchmarkOf two 13 1 0 1 ≡ benchmarkCharge 77945243
+  pub benchmark-given : benchmarkOf two 13 1 0 1 ≡ benchmarkCharge (pos 77945243)
   pub maximum-given : maximumOf two 13 1 0 4321 ≡ maximumCharge (record { number = 3474740905188; denominator = 50400 })
   -- QUOTE: 6, 9, 10 and 13, each where later ones apply as well
   pub quote-6 : quoteOf bare 33 14 2 [] ≡ refused 6

@@ -1,9 +1,12 @@
 -- Lists of calls that are refused, each by one thing that is wrong: the ends of the ranges, and what comes before what.
 -- Assumes nothing.
 use mathlib.Core.Path.{_≡_}
+use mathlib.Core.Bool.{false}
 use mathlib.Core.List.{[], _∷_}
-use Prim.Native.Nat.{ℕ}
+use Prim.Native.Nat.{ℕ, _+_, _-_}
 use lib.ListN.{set}
+use Rattle.sheet.specs.Sheet.{termsFit}
+use Rattle.benchmark.specs.Benchmark.{figures, ocsFit, ordered}
 use Rattle.book.specs.Calls.{Sheet, sheetAt, Record, SET, PUT, OPEN, CLOSE, DROP, accepted, refused}
 use Rattle.reference.specs.SheetS.{sheetS, periodS, offeredEverywhere}
 use Rattle.unlike.specs.SheetU.{lonePair}
@@ -24,6 +27,25 @@ bothWrong = sheetAt (set sheetS 93 0) (record { year = 2023; month = 13; months 
 abbrev pub unordered : Sheet
 unordered = sheetAt (lonePair 13 1 1) periodS
 
+-- sheet S with a saving of n mills for SMNCC: the word is 2^32 less n
+abbrev pub saving : ℕ → Sheet
+saving n = withField 36 (4294967296 - n)
+
+-- and with no OC0 at place f of the four: OC is below zero there alone
+abbrev pub loneOc : ℕ → Sheet
+loneOc f = sheetAt (set (saving 500000 .fields) (12 + f) 0) periodS
+
+-- the deepest saving, on a sheet with all of it for OC0 and CPIH at rest: OC is 0 at all four
+abbrev pub deepest : Sheet
+deepest = sheetAt (set (set (set (set (set (saving 100000000 .fields) 12 100000000) 13 100000000) 14 100000000) 15 100000000) 31 100) periodS
+
+-- both wrong: an indexed term above 100,000,000, and OC below zero; OC below zero, and a pair of benchmarks out of order
+abbrev pub termAndOc : Sheet
+termAndOc = sheetAt (set (saving 5250001 .fields) 20 100000000) periodS
+
+abbrev pub ocAndOrder : Sheet
+ocAndOrder = sheetAt (set (lonePair 13 1 1) 36 4294967295) periodS
+
 -- two rates with one step, three with two; two registers with their percentages
 abbrev pub oneStep : ℕ → Record
 oneStep a = offeredEverywhere 1 2 23000 (18000 ∷ 17000 ∷ 0 ∷ 0 ∷ []) (a ∷ 0 ∷ 0 ∷ 0 ∷ [])
@@ -43,6 +65,15 @@ pub record Refusals : Type 0 where
       ≡ refused 3 ∷ refused 3 ∷ refused 3 ∷ refused 3 ∷ refused 3 ∷ refused 2 ∷ accepted ∷ []
   -- 4: each PAAC is an indexed term as well; 5: one pair of benchmarks is enough
   pub set-terms : answersTo (SET (withField 20 100000000) ∷ SET (withField 21 100000000) ∷ SET unordered ∷ []) ≡ refused 4 ∷ refused 4 ∷ refused 5 ∷ []
+  -- 2: SMNCC is a signed number, -100,000,000 to 100,000,000; 14: of those the least has OC below zero on sheet S, and not on another
+  pub set-smncc : answersTo (SET (withField 36 100000000) ∷ SET (withField 36 100000001) ∷ SET (withField 36 2147483647) ∷ SET (withField 36 2147483648) ∷ SET (saving 100000001) ∷ SET (saving 100000000) ∷ SET deepest ∷ [])
+      ≡ accepted ∷ refused 2 ∷ refused 2 ∷ refused 2 ∷ refused 2 ∷ refused 14 ∷ accepted ∷ []
+  -- 14: an OC of 0 passes, and one of the four below zero is enough
+  pub set-ocs : answersTo (SET (saving 500000) ∷ SET (saving 5249999) ∷ SET (saving 5250000) ∷ SET (saving 5250001) ∷ SET (loneOc 0) ∷ SET (loneOc 1) ∷ SET (loneOc 2) ∷ SET (loneOc 3) ∷ [])
+      ≡ accepted ∷ accepted ∷ accepted ∷ refused 14 ∷ refused 14 ∷ refused 14 ∷ refused 14 ∷ refused 14 ∷ []
+  -- 4 comes before 14, and 14 before 5: each of the two sheets would be refused by both
+  pub both-fail : (termsFit (termAndOc .fields) ≡ false) × (ocsFit (termAndOc .fields) ≡ false) × (ocsFit (ocAndOrder .fields) ≡ false) × (ordered (figures (ocAndOrder .fields)) ≡ false)
+  pub set-between : answersTo (SET termAndOc ∷ SET ocAndOrder ∷ []) ≡ refused 4 ∷ refused 14 ∷ []
   -- 8: a step is 1 to 9,999, and steps rise strictly
   pub put-steps : answersTo (PUT 9 (oneStep 0) ∷ PUT 9 (oneStep 1) ∷ PUT 9 (oneStep 9999) ∷ PUT 9 (oneStep 10000) ∷ PUT 9 (twoSteps 5 5) ∷ PUT 9 (twoSteps 5 6) ∷ [])
       ≡ refused 8 ∷ accepted ∷ accepted ∷ refused 8 ∷ refused 8 ∷ accepted ∷ []

@@ -8,7 +8,7 @@ use Rattle.book.specs.Book.{fresh}
 use Rattle.queries.specs.Queries.{refused, falling}
 use Rattle.trial.specs.Trial.{trialOf}
 use Rattle.worked.specs.Worked.{quarter, october, noFields, low, close, bookOf}
-use Rattle.worked.specs.Refusals.{withField, forPeriod, bothWrong, unordered}
+use Rattle.worked.specs.Refusals.{withField, forPeriod, bothWrong, unordered, saving, termAndOc, ocAndOrder}
 
 -- the sheet of the quarter, with two open tariffs; a third one in place 32; and the first closed again
 abbrev pub openingTwo : List Act
@@ -31,9 +31,10 @@ pub record Tried : Type 0 where
   pub draft-stays : trialOf oneClosed october ≡ falling 0
   pub same-sheet : trialOf twoOpen quarter ≡ falling 0
   pub no-sheet : trialOf fresh october ≡ falling 0
-  -- 1 to 5, as SET; 2 comes before 3
+  -- 1 to 5 and 14, as SET; 2 comes before 3, 4 before 14, and 14 before 5
   pub refused-1 : trialOf twoOpen noFields ≡ refused 1
   pub refused-2 : (trialOf twoOpen (withField 94 0) ≡ refused 2) × (trialOf twoOpen bothWrong ≡ refused 2)
   pub refused-3 : trialOf twoOpen (forPeriod 2023 13 1) ≡ refused 3
-  pub refused-4 : trialOf twoOpen (withField 20 100000000) ≡ refused 4
+  pub refused-4 : (trialOf twoOpen (withField 20 100000000) ≡ refused 4) × (trialOf twoOpen termAndOc ≡ refused 4)
+  pub refused-14 : (trialOf twoOpen (saving 5250001) ≡ refused 14) × (trialOf twoOpen ocAndOrder ≡ refused 14)
   pub refused-5 : trialOf twoOpen unordered ≡ refused 5

@@ -24,6 +24,7 @@ pub enum Refusal {
     NoSheet = 10,
     NotOpen = 12,
     Argument = 13,
+    OcBelowZero = 14,
 }
 
 impl Refusal {
@@ -39,6 +40,7 @@ impl From<SheetError> for Refusal {
             SheetError::Field => Refusal::FieldRange,
             SheetError::Period => Refusal::Period,
             SheetError::Term => Refusal::TermTooHigh,
+            SheetError::OcBelowZero => Refusal::OcBelowZero,
             SheetError::Falling => Refusal::BenchmarkFalls,
         }
     }

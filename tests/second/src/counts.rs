@@ -6,9 +6,10 @@ use std::fmt::Write;
 
 use crate::book::{Book, NotOpened, State, PLACES};
 use crate::period_days;
-use crate::sheet::{field_range, FIELDS};
+use crate::sheet::{field_range, field_value, FIELDS};
 use crate::tally::Tally;
 use crate::tariff::{MONTH_LIMIT, RECORD};
+use savings::is_saving;
 use trials::Tried;
 
 /// What is met in the scripts of one or more books.
@@ -19,6 +20,8 @@ pub struct Counts {
     /// The key of the sheet in force and its period, and that of its fields alone.
     in_force: u64,
     fields_in_force: u64,
+    /// The sheet in force has an SMNCC below zero.
+    saving: bool,
     /// The last trial, as long as no call has changed the book since.
     tried: Option<Tried>,
     records: [[u32; RECORD]; PLACES],
@@ -38,6 +41,7 @@ impl Default for Counts {
             period: None,
             in_force: 0,
             fields_in_force: 0,
+            saving: false,
             tried: None,
             records: [[0; RECORD]; PLACES],
             used: [false; PLACES],
@@ -58,12 +62,14 @@ macro_rules! count {
     }};
 }
 
+mod savings;
 mod trials;
 
 impl Counts {
     /// A script begins on a fresh book.
     pub fn fresh_book(&mut self) {
         self.period = None;
+        self.saving = false;
         self.tried = None;
         self.used = [false; PLACES];
         self.open = [false; PLACES];
@@ -126,6 +132,10 @@ impl Counts {
         let values = std::mem::take(&mut self.values);
         let refusal = if ok { 0 } else { values[0] };
         self.after_trial(call, &numbers, refusal);
+        self.under_a_saving(call, refusal, &values);
+        if ["set", "trial"].contains(&call) {
+            self.smncc(call, &numbers[3..], refusal);
+        }
         match call {
             "set" => self.set(&numbers, refusal, book),
             "trial" => self.trial(&numbers, refusal, &values, book),
@@ -159,6 +169,7 @@ impl Counts {
         }
         self.in_force = submitted;
         self.fields_in_force = key(&numbers[3..]);
+        self.saving = is_saving(&numbers[3..]);
         self.accepted_sheet([numbers[0], numbers[1], numbers[2]], &numbers[3..], book);
     }
 
@@ -166,38 +177,34 @@ impl Counts {
     fn refused_sheet(&mut self, call: &str, numbers: &[u32], refusal: u64) {
         let period = [numbers[0], numbers[1], numbers[2]];
         let fields = &numbers[3..];
-        // The names of the same count for SET and for TRIAL.
-        let name = |set: &'static str, trial: &'static str| match call {
-            "set" => set,
-            _ => trial,
-        };
         match refusal {
             2 => {
-                let tally = &mut self.tally;
-                let field = only(|field| {
+                if let Some(field) = only_outside(fields) {
                     let (lowest, highest) = field_range(field);
-                    fields[field] < lowest || fields[field] > highest
-                });
-                if let Some(field) = field {
-                    let (lowest, highest) = field_range(field);
-                    let value = fields[field];
-                    let what = if value == highest + 1 {
-                        name(
+                    let value = field_value(field, fields[field]);
+                    let (set, trial) = if value == highest + 1 {
+                        (
                             "fields alone, one above their range",
                             "fields tried alone, one above their range",
                         )
-                    } else if value < lowest {
-                        name(
+                    } else if value > highest {
+                        (
+                            "fields alone, far above their range",
+                            "fields tried alone, far above their range",
+                        )
+                    } else if value == lowest - 1 {
+                        (
                             "fields alone, one below their range",
                             "fields tried alone, one below their range",
                         )
                     } else {
-                        name(
-                            "fields alone, far above their range",
-                            "fields tried alone, far above their range",
+                        (
+                            "fields alone, far below their range",
+                            "fields tried alone, far below their range",
                         )
                     };
-                    tally.different(what, field as u64);
+                    let what = name(call, set, trial);
+                    self.tally.different(what, field as u64);
                 }
             }
             3 => {
@@ -213,20 +220,9 @@ impl Counts {
                 }
             }
             4 => {
-                let term = only(|field| {
-                    let index = match field {
-                        0..=3 => 0,
-                        4..=7 => 1,
-                        8..=11 => field - 5,
-                        12..=15 | 20..=21 => 2,
-                        _ => return false,
-                    };
-                    let indexed = u64::from(fields[field]) * u64::from(fields[29 + index]);
-                    // Half a mill above the limit rounds up.
-                    2 * indexed >= 200_000_001 * u64::from(fields[22 + index])
-                });
-                if let Some(field) = term {
+                if let Some(field) = only_too_high(fields) {
                     let what = name(
+                        call,
                         "terms that alone were above 100,000,000",
                         "terms tried that alone were above 100,000,000",
                     );
@@ -243,6 +239,13 @@ impl Counts {
         let was = self.open.iter().filter(|&&open| open).count();
         let is = after.iter().filter(|&&open| open).count();
         self.open = after;
+        if was > 0 && self.saving {
+            self.tally.one(if is < was {
+                "set with a saving, demoting some or all"
+            } else {
+                "set with a saving, keeping all the open ones"
+            });
+        }
         if is > 0 && is < was {
             self.tally.one("set demoting some and keeping some");
         } else if is < was {
@@ -274,8 +277,9 @@ impl Counts {
         at_lowest: &'static str,
         at_highest: &'static str,
     ) {
-        for (field, &value) in fields.iter().enumerate() {
+        for (field, &word) in fields.iter().enumerate() {
             let (lowest, highest) = field_range(field);
+            let value = field_value(field, word);
             if value == lowest {
                 self.tally.different(at_lowest, field as u64);
             } else if value == highest {
@@ -489,6 +493,38 @@ impl Counts {
             _ => {}
         }
     }
+}
+
+/// The name of a count for SET, and of the same one for TRIAL.
+fn name(call: &str, set: &'static str, trial: &'static str) -> &'static str {
+    match call {
+        "set" => set,
+        _ => trial,
+    }
+}
+
+/// The only field of a sheet that is outside its range, if there is just one.
+fn only_outside(fields: &[u32]) -> Option<usize> {
+    only(|field| {
+        let (lowest, highest) = field_range(field);
+        !(lowest..=highest).contains(&field_value(field, fields[field]))
+    })
+}
+
+/// The only field of a sheet whose indexed term is above 100,000,000, if there is just one.
+fn only_too_high(fields: &[u32]) -> Option<usize> {
+    only(|field| {
+        let index = match field {
+            0..=3 => 0,
+            4..=7 => 1,
+            8..=11 => field - 5,
+            12..=15 | 20..=21 => 2,
+            _ => return false,
+        };
+        let indexed = u64::from(fields[field]) * u64::from(fields[29 + index]);
+        // Half a mill above the limit rounds up.
+        2 * indexed >= 200_000_001 * u64::from(fields[22 + index])
+    })
 }
 
 /// The only field of a sheet for which the test holds, if there is just one.

@@ -25,6 +25,7 @@ mod tariff;
 pub use book::{Book, Maximum, NotOpened, Quote, Refusal, State, PLACES};
 pub use calendar::period_days;
 pub use sheet::{
-    common_sums, field_range, Breach, SheetError, COMMON_FIELDS, FIELDS, METHODS, REGIONS,
+    common_sums, field_range, field_value, operating_costs, Breach, SheetError, COMMON_FIELDS,
+    FIELDS, METHODS, REGIONS, SMNCC,
 };
 pub use tariff::{Tariff, MONTH_LIMIT, RECORD};

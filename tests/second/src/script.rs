@@ -7,16 +7,20 @@
 mod edges;
 mod noise;
 mod orders;
+mod savings;
 mod sheets;
 mod tariffs;
 mod trials;
 
 pub use edges::all_periods;
+pub(crate) use savings::SMNCC_EDGES;
 
 use crate::book::{Book, State};
 use crate::desk::LINE_LIMIT;
 use crate::random::Random;
-use crate::sheet::{field_range, FIELDS, REGIONS};
+use crate::sheet::{
+    field_range, field_value, operating_costs, COMMON_FIELDS, FIELDS, REGIONS, SMNCC,
+};
 use crate::tally::Tally;
 use crate::tariff::{MONTH_LIMIT, RECORD};
 use crate::{period_days, Breach, NotOpened, Refusal};
@@ -96,7 +100,7 @@ const TURNS: [(Turn, u64); 13] = [
     (Turn::Quote, 190),
     (Turn::Edge, 45),
     (Turn::Fill, 1),
-    (Turn::TwoFaults, 14),
+    (Turn::TwoFaults, 19),
     (Turn::FieldEnd, 3),
 ];
 
@@ -164,6 +168,8 @@ pub struct Writer {
     term: usize,
     /// The end of a field's range to be gone to next.
     field_end: usize,
+    /// The OC of the four that is to be the lowest next.
+    low: usize,
     /// What has been written and not handed out.
     text: Vec<u8>,
     ended: bool,
@@ -255,6 +261,14 @@ impl Dated {
     fn numbers(&self) -> Vec<u32> {
         [&[self.year, self.month, self.t], &self.fields[..]].concat()
     }
+
+    fn value(&self, field: usize) -> i64 {
+        field_value(field, self.fields[field])
+    }
+
+    fn set_value(&mut self, field: usize, value: i64) {
+        self.fields[field] = value as u32;
+    }
 }
 
 impl Writer {
@@ -285,6 +299,7 @@ impl Writer {
             term: 0,
             spoilt: (seed % FIELDS as u64) as usize * 31 % FIELDS,
             field_end: (seed % FIELDS as u64) as usize * 31 % FIELDS,
+            low: 0,
             text: Vec::new(),
             ended: false,
             tally: Tally::default(),

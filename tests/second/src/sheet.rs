@@ -12,8 +12,11 @@ pub const REGIONS: usize = 14;
 /// Payment methods: Standard Credit, then Other.
 pub const METHODS: usize = 2;
 
+/// The smart meter net cost component, the one field that can be below zero.
+pub const SMNCC: usize = 36;
+
 const ARRANGEMENTS: usize = 2;
-const MONEY: u32 = 100_000_000;
+const MONEY: i64 = 100_000_000;
 const PPM: u64 = 1_000_000;
 
 // The first field of each group. "Four" is single-rate nil, single-rate m,
@@ -27,7 +30,6 @@ const PAP: usize = 18;
 const PAAC: usize = 20;
 const INITIAL: usize = 22;
 const CURRENT: usize = 29;
-const SMNCC: usize = 36;
 const NC: usize = 37;
 const M: usize = 93;
 
@@ -37,10 +39,19 @@ const CMI: usize = 1;
 const CPIH: usize = 2;
 const PI: usize = 3;
 
-/// The lowest and the highest value allowed in a field.
-pub fn field_range(field: usize) -> (u32, u32) {
+/// What a word means in a field: SMNCC is in two's complement, all others are unsigned.
+pub fn field_value(field: usize, word: u32) -> i64 {
     match field {
-        0..=15 | 20..=21 | 36..=92 => (0, MONEY),
+        SMNCC => i64::from(word as i32),
+        _ => i64::from(word),
+    }
+}
+
+/// The lowest and the highest value allowed in a field.
+pub fn field_range(field: usize) -> (i64, i64) {
+    match field {
+        0..=15 | 20..=21 | 37..=92 => (0, MONEY),
+        SMNCC => (-MONEY, MONEY),
         16..=19 => (0, 1_000_000),
         22..=28 => (1, 1_000_000_000),
         29..=35 => (0, 1_000_000_000),
@@ -56,6 +67,7 @@ pub enum SheetError {
     Field,
     Period,
     Term,
+    OcBelowZero,
     Falling,
 }
 
@@ -105,28 +117,48 @@ fn round(n: u64, d: u64) -> u64 {
     (2 * n + d) / (2 * d)
 }
 
+/// A baseline value times its current index over its initial one.
+fn term(fields: &[u32; COMMON_FIELDS], baseline: usize, index: usize) -> Result<u64, SheetError> {
+    let product = u64::from(fields[baseline]) * u64::from(fields[CURRENT + index]);
+    let term = round(product, u64::from(fields[INITIAL + index]));
+    if term > MONEY as u64 {
+        Err(SheetError::Term)
+    } else {
+        Ok(term)
+    }
+}
+
+/// OC for the four: below zero where SMNCC saves more than the rest comes to.
+/// `SheetError::Term` if that is too high.
+pub fn operating_costs(fields: &[u32; COMMON_FIELDS]) -> Result<[i64; 4], SheetError> {
+    let smncc = field_value(SMNCC, fields[SMNCC]);
+    let mut costs = [smncc; 4];
+    for (four, cost) in costs.iter_mut().enumerate() {
+        *cost += term(fields, OC0 + four, CPIH)? as i64;
+    }
+    Ok(costs)
+}
+
 /// The part of the benchmarks that has no region in it: the eight sums WC + PC + OC + PAENC + H
 /// by arrangement, then method, then level, from fields 0 to 36, each within its range.
-/// `SheetError::Term` if an indexed term is too high.
+/// `SheetError::Term` if an indexed term is too high, and if none is,
+/// `SheetError::OcBelowZero` if some OC is below zero.
 pub fn common_sums(fields: &[u32; COMMON_FIELDS]) -> Result<[u64; 8], SheetError> {
-    let term = |baseline: usize, index: usize| {
-        let product = u64::from(fields[baseline]) * u64::from(fields[CURRENT + index]);
-        let term = round(product, u64::from(fields[INITIAL + index]));
-        if term > u64::from(MONEY) {
-            Err(SheetError::Term)
-        } else {
-            Ok(term)
-        }
-    };
-    // WC + PC + OC, by arrangement, then level.
+    let term = |baseline, index| term(fields, baseline, index);
+    // WC + PC, by arrangement, then level.
     let mut costs = [0; 4];
     for (four, cost) in costs.iter_mut().enumerate() {
         let wc = term(DF0 + four, DFI)? + term(CM0 + four, CMI)?;
         let pc = term(PC0 + four, PI + four)?;
-        let oc = term(OC0 + four, CPIH)? + u64::from(fields[SMNCC]);
-        *cost = wc + pc + oc;
+        *cost = wc + pc;
     }
+    let operating = operating_costs(fields)?;
     let additional = [term(PAAC, CPIH)?, term(PAAC + 1, CPIH)?];
+
+    // All the terms are within their limit. From here on the costs are WC + PC + OC.
+    for (cost, oc) in costs.iter_mut().zip(operating) {
+        *cost += u64::try_from(oc).map_err(|_| SheetError::OcBelowZero)?;
+    }
 
     let mut sums = [0; 8];
     for (i, sum) in sums.iter_mut().enumerate() {
@@ -142,8 +174,9 @@ pub fn common_sums(fields: &[u32; COMMON_FIELDS]) -> Result<[u64; 8], SheetError
 impl Sheet {
     pub fn new(year: u32, month: u32, t: u32, fields: &[u32]) -> Result<Sheet, SheetError> {
         let fields: &[u32; FIELDS] = fields.try_into().map_err(|_| SheetError::Length)?;
-        for (field, &value) in fields.iter().enumerate() {
+        for (field, &word) in fields.iter().enumerate() {
             let (lowest, highest) = field_range(field);
+            let value = field_value(field, word);
             if value < lowest || value > highest {
                 return Err(SheetError::Field);
             }

@@ -35,6 +35,12 @@ fn benchmarks(book: &Book) -> Vec<u64> {
         .collect()
 }
 
+/// All 112 with different weights.
+fn weighted(book: &Book) -> u64 {
+    let figures = benchmarks(book);
+    (1..).zip(figures).map(|(i, figure)| i * figure).sum()
+}
+
 fn set(book: &mut Book, sheet: &[u32]) -> u32 {
     book.set(2023, 10, 3, sheet)
         .map_or_else(Refusal::number, |()| 0)
@@ -110,9 +116,35 @@ fn the_sums_of_a_sheet_of_different_values() {
     let mut book = Book::new();
     assert_eq!(set(&mut book, &sheet), 0);
     assert_eq!(book.benchmark(0, 0, 0, 1), Ok(68_981_521));
-    // All 112 with different weights.
-    let weighted = (1..).zip(benchmarks(&book)).map(|(i, figure)| i * figure);
-    assert_eq!(weighted.sum::<u64>(), 269_047_656_735);
+    assert_eq!(weighted(&book), 269_047_656_735);
+}
+
+/// The same sheet with SMNCC below zero (M-102), worked out in fractions beside the program.
+#[test]
+fn the_sums_of_a_sheet_of_different_values_with_a_saving() {
+    let mut sheet = sheet_u();
+    sheet[36] = 4_294_454_951; // -512,345
+    let expected = [
+        8_120_378,  // 1,415,000 + 1,110,680 + 4,945,081 + 569,217 + 80,400
+        55_277_885, // 35,675,000 + 8,532,710 + 9,038,150 + 1,484,719 + 547,306
+        7_642_304,  // 1,415,000 + 1,110,680 + 4,945,081 + 95,877 + 75,666
+        54_013_854, // 35,675,000 + 8,532,710 + 9,038,150 + 233,203 + 534,791
+        9_577_684,  // 2,567,500 + 1,222,018 + 5,050,031 + 596,593 + 141,542
+        63_603_465, // 42,537,500 + 9,132,743 + 9,353,002 + 1,640,267 + 939,953
+        9_073_626,  // 2,567,500 + 1,222,018 + 5,050,031 + 99,984 + 134,093
+        62_198_977, // 42,537,500 + 9,132,743 + 9,353,002 + 256,535 + 919,197
+    ];
+    assert_eq!(sums(&sheet), Ok(expected));
+    let mut book = Book::new();
+    assert_eq!(set(&mut book, &sheet), 0);
+    assert_eq!(weighted(&book), 262_407_272_635);
+
+    // The operating cost of single-rate at nil, 5,457,426, is all saved.
+    sheet[36] = 4_289_509_870;
+    assert_eq!(set(&mut book, &sheet), 0);
+    assert_eq!(weighted(&book), 230_361_244_915);
+    sheet[36] -= 1;
+    assert_eq!(set(&mut book, &sheet), 14);
 }
 
 /// One more in a field moves the sums that it belongs to, and no others.
@@ -141,8 +173,8 @@ fn each_field_from_0_to_36_matters() {
     }
 }
 
-/// Fields 0 to 36 of a sheet: costs of one size, mostly higher at m, and now and then a field at
-/// an end of its range.
+/// Fields 0 to 36 of a sheet: costs of one size, mostly higher at m, and now and then a saving or
+/// a field at an end of its range.
 fn random_common(random: &mut Random) -> Vec<u32> {
     let size = random.pick(&[50_000_000, 5_000_000, 50]);
     let mut fields: Vec<_> = (0..37)
@@ -161,9 +193,12 @@ fn random_common(random: &mut Random) -> Vec<u32> {
         fields[initial + 7] = random.between(0, 2 * fields[initial]);
     }
     if random.one_in(4) {
+        fields[36] = (fields[36] / 4).wrapping_neg();
+    }
+    if random.one_in(4) {
         let field = random.index(37);
         let (lowest, highest) = field_range(field);
-        fields[field] = random.pick(&[lowest, highest]);
+        fields[field] = random.pick(&[lowest, highest]) as u32;
     }
     fields
 }
@@ -181,12 +216,13 @@ fn random_rest(random: &mut Random) -> Vec<u32> {
 }
 
 /// Pairs of random sheets that agree in fields 0 to 36 and differ in all others. The same sums
-/// give the figures of both, and SET's answers 4 and 5.
+/// give the figures of both, and SET's answers 4, 14 and 5.
 #[test]
 fn the_same_sums_whatever_the_regions() {
     let mut random = Random::new(101);
     let mut book = Book::new();
-    let (mut taken, mut high, mut refused, mut falling) = (0, 0, 0, 0);
+    let (mut taken, mut high, mut below, mut refused, mut falling) = (0, 0, 0, 0, 0);
+    let mut savings = 0;
     while taken < 4_000 {
         let common = random_common(&mut random);
         let rests = [random_rest(&mut random), random_rest(&mut random)];
@@ -195,10 +231,18 @@ fn the_same_sums_whatever_the_regions() {
         }
         let sheets = rests.map(|rest| [&common[..], &rest].concat());
         assert_eq!(sums(&sheets[0]), sums(&sheets[1]));
-        let Ok(sums) = sums(&sheets[0]) else {
-            high += 1;
-            assert_eq!(sheets.map(|sheet| set(&mut book, &sheet)), [4, 4]);
-            continue;
+        let sums = match sums(&sheets[0]) {
+            Ok(sums) => sums,
+            Err(error) => {
+                let (count, answer) = match error {
+                    SheetError::Term => (&mut high, 4),
+                    SheetError::OcBelowZero => (&mut below, 14),
+                    _ => panic!("no refusal of fields 0 to 36: {error:?}"),
+                };
+                *count += 1;
+                assert_eq!(sheets.map(|sheet| set(&mut book, &sheet)), [answer; 2]);
+                continue;
+            }
         };
         let falls = |figures: &[u64]| figures.chunks(2).any(|pair| pair[1] < pair[0]);
         let answers = sheets.map(|sheet| {
@@ -212,11 +256,12 @@ fn the_same_sums_whatever_the_regions() {
         });
         if answers == [0, 0] {
             taken += 1;
+            savings += u32::from(common[36] > 100_000_000);
             // A sum may fall from nil to m: the network costs can make up for it.
             falling += u32::from(falls(&sums));
         } else {
             refused += 1;
         }
     }
-    assert!(high > 100 && refused > 100 && falling > 100);
+    assert!(high > 100 && below > 100 && refused > 100 && falling > 100 && savings > 100);
 }

@@ -78,6 +78,30 @@ fn answers_of_trial() {
     );
 }
 
+/// SMNCC is word 41, in two's complement: 4,294,467,296 is -500,000.
+#[test]
+fn a_saving_is_written_without_a_sign() {
+    let line = |smncc: &str| reference_line().replace(" 500000 ", &format!(" {smncc} "));
+    let mut input = line("4294467296");
+    input.push_str("benchmark 0 0 1 0\n");
+    for smncc in ["4289717295", "4194967295", "-500000", "4294967296"] {
+        input.push_str(&line(smncc));
+        input.push_str(&line(smncc).replace("set", "trial"));
+    }
+    input.push_str("benchmark 0 0 1 0\n");
+    let error = "word 41 is not a number from 0 to 4294967295";
+    assert_eq!(
+        run(input.as_bytes()),
+        format!(
+            "ok\nok 7807500\n\
+             refused 14\nrefused 14\nrefused 2\nrefused 2\n\
+             error line 7: {error}\nerror line 8: {error}\n\
+             error line 9: {error}\nerror line 10: {error}\n\
+             ok 7807500\n"
+        )
+    );
+}
+
 #[test]
 fn lines_that_are_no_calls() {
     for (line, expected) in [

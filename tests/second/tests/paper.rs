@@ -310,22 +310,27 @@ fn the_range_of_each_field() {
             20 | 21 => (0, 100_000_000),
             22..=28 => (1, 1_000_000_000),
             29..=35 => (0, 1_000_000_000),
-            36..=92 => (0, 100_000_000),
+            // Document 02, M-102.
+            36 => (-100_000_000, 100_000_000),
+            37..=92 => (0, 100_000_000),
             _ => (1, 20_000),
         };
         assert_eq!(field_range(field), (lowest, highest));
         let mut sheet = reference();
-        for outside in [highest + 1, 1 << 31, u32::MAX] {
-            sheet[field] = outside;
-            assert_eq!(set(&sheet), 2, "field {field} at {outside}");
+        let mut at = |value: i64| {
+            sheet[field] = value as u32;
+            set(&sheet)
+        };
+        for outside in [highest + 1, (1 << 31) - 1, 1 << 31] {
+            assert_eq!(at(outside), 2, "field {field} at {outside}");
         }
-        if lowest > 0 {
-            sheet[field] = lowest - 1;
-            assert_eq!(set(&sheet), 2, "field {field} at {}", lowest - 1);
+        if lowest != 0 {
+            assert_eq!(at(lowest - 1), 2, "field {field} at {}", lowest - 1);
         }
+        // All the bits: -1 in field 36.
+        assert_eq!(at(u32::MAX.into()) == 2, field != 36, "field {field}");
         for inside in [lowest, highest] {
-            sheet[field] = inside;
-            assert_ne!(set(&sheet), 2, "field {field} at {inside}");
+            assert_ne!(at(inside), 2, "field {field} at {inside}");
         }
     }
 }

@@ -11,7 +11,7 @@ type Part = fn(&Program) -> Result<(), String>;
 fn wrong(fault: &str) -> Program {
     Program::new(env!("CARGO_BIN_EXE_wrong_desk"))
         .argument(fault)
-        .limit(Duration::from_millis(700))
+        .limit(Duration::from_secs(2))
 }
 
 fn fixed_conversations(program: &Program) -> Result<(), String> {
@@ -126,6 +126,33 @@ fn random_calls_find_what_is_wrong_with_a_trial() {
         ],
         first_seed,
     );
+}
+
+/// Each of them in SET alone, and in TRIAL alone.
+#[test]
+fn random_calls_find_what_is_wrong_with_a_saving() {
+    for (fault, says) in [
+        ("savings are refused", "answered: refused 2"),
+        ("-100,000,001 is allowed", "expected: refused 2"),
+        ("-100,000,000 is not allowed", "answered: refused 2"),
+        ("a saving is taken for a cost", "expected: "),
+        ("a saving in ones' complement", "expected: "),
+        ("a saving at m alone", "expected: "),
+        ("a saving at nil alone", "expected: "),
+        ("14 at nil alone", "expected: refused 14"),
+        ("14 at m alone", "expected: refused 14"),
+        ("14 for single-rate alone", "expected: refused 14"),
+        ("14 for Economy 7 alone", "expected: refused 14"),
+        ("no 14", "expected: refused 14"),
+        ("14 for an OC of 0", "answered: refused 14"),
+        ("14 before 4", "answered: refused 14"),
+        ("14 before the terms of PAAC", "answered: refused 14"),
+        ("14 after 5", "answered: refused 5"),
+    ] {
+        for call in ["set", "trial"] {
+            all_found(&[(&format!("{call}: {fault}"), says)], first_seed);
+        }
+    }
 }
 
 #[test]

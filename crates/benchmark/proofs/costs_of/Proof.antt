@@ -20,7 +20,7 @@ costs-at-requires-4 c κs = search needs
 returns : tie.Need-returns
 unfolding tabulate tabulateFrom
 returns c =
-    rw (c .before .before .before .costs-at .ensures, c .before .before .costs-at2 .ensures, c .before .costs-at3 .ensures, c .costs-at4 .ensures)
+    rw (← (c .before .before .before .costs-at .ensures .0), ← (c .before .before .costs-at2 .ensures .0), ← (c .before .costs-at3 .ensures .0), ← (c .costs-at4 .ensures .0))
 
 pub costs-of-spec : {M : Type 1} → statement M
 costs-of-spec =

@@ -2,6 +2,7 @@
 -- Assumes nothing.
 use native.Mathlib.Omega.{arith}
 use borrow.Author.Needs.{needs}
+use Rattle.sheet.specs.Sheet.{round, roundSigned}
 use Rattle.sheet.proofs.Bounds.{ppm-most, paac-most}
 use Rattle.benchmark.specs.Benchmark.{paenc}
 use Rattle.benchmark.proofs.paenc_of.Statement.{statement}
@@ -30,7 +31,7 @@ add-result c =
     omega (arith, paac-most _ (start .pre .0) _ (start .pre .1))
 
 returns : tie.Need-returns
-unfolding paenc
+unfolding paenc roundSigned round
 returns c =
     let start = c .before .before .before .before in (
       rw (c .ppm-of .ensures .0, c .before .before .paac-term .ensures),

@@ -2,6 +2,7 @@
 -- Assumes nothing.
 use Prim.Native.Nat.{_≤_}
 use native.Mathlib.Omega.{arith}
+use Rattle.sheet.specs.Sheet.{round, roundSigned}
 use Rattle.sheet.proofs.Bounds.{ppm-most, money-most}
 use Rattle.benchmark.specs.Benchmark.{nc, panc}
 use borrow.Author.Needs.{needs}
@@ -53,7 +54,7 @@ add-result-2 : tie.Need-add-result-2
 add-result-2 c = omega (arith, network-small (c .before .before))
 
 returns : tie.Need-returns
-unfolding nc panc
+unfolding nc panc roundSigned round
 returns c =
     (rw (c .ppm-of .ensures .0, c .before .before .wide .ensures), omega (arith, network-small (c .before .before)))
 

@@ -1,14 +1,13 @@
 -- `figures::figures_of` meets its contract. The loop's invariant: each place before k has its figure.
 -- Assumes nothing.
 use mathlib.Core.Path.{_≡_}
-use Prim.Native.Nat.{ℕ, _-_, _%_, _≤_, _<_}
+use Prim.Native.Nat.{ℕ, _-_, _≤_, _<_}
 use native.Mathlib.Omega.{arith}
 use borrow.Author.Needs.{needs}
 use lib.ListN.{length, getD, length-replicate, length-set, length-take}
 use Rattle.laws.proofs.Filled.{filled-more}
 use Rattle.laws.proofs.Lists.{is-table}
 use Rattle.benchmark.specs.Benchmark.{figure, figures}
-use Rattle.benchmark.proofs.Commons.{sum-most}
 use Rattle.figures.proofs.figures_of.Statement.{statement}
 use Rattle.figures.proofs.figures_of.Tie as tie
 
@@ -37,9 +36,9 @@ figure-at-requires : tie.Need-figure-at-requires Inv-loop μ-loop
 figure-at-requires c κs =
     let start = c .before .before .before .before .before in (
       start .pre .0,
+      start .pre .1,
       omega arith,
       rw (c .before .before .commons-of .ensures),
-      rw (c .before .before .commons-of .ensures) (sum-most _ (start .pre .1) (c .before .loop .k % 8) (omega arith)),
     )
 
 mul-charges : tie.Need-mul-charges Inv-loop μ-loop

@@ -17,9 +17,10 @@ use Rattle.sheet.specs.Sheet.{fieldCount, fieldsInRange, termsFit}
 use Rattle.sheet.specs.Ranged.{Ranged}
 use Rattle.sheet.proofs.Bounds.{all-ranged}
 use Rattle.sheet.proofs.CommonFields.{common-indexed}
-use Rattle.benchmark.specs.Benchmark.{figures, ordered, benchmarksOf, setCheck}
+use Rattle.benchmark.specs.Benchmark.{figures, ocsFit, ordered, benchmarksOf, setCheck}
+use Rattle.benchmark.proofs.Signs.{common-costed}
 use Rattle.refusal.proofs.Checks.{unless-passes}
-use Rattle.figures.proofs.Checks.{first-refuses, second-refuses, third-refuses, fourth-refuses, fifth-answers, answers-refusal, answers-pass}
+use Rattle.figures.proofs.Checks.{first-refuses, second-refuses, third-refuses, fourth-refuses, fourteenth-refuses, fifth-answers, answers-refusal, answers-pass}
 use Rattle.figures.proofs.work_out.Statement.{statement}
 use Rattle.figures.proofs.work_out.Tie as tie
 
@@ -42,6 +43,12 @@ four-three four = four .before .before
 
 abbrev four-one : tie.After-enum-told7 → tie.After-enum-told
 four-one four = two-one (three-two (four-three four))
+
+abbrev fourteen-four : tie.After-enum-told9 → tie.After-enum-told7
+fourteen-four fourteen = fourteen .before .before .before
+
+abbrev fourteen-one : tie.After-enum-told9 → tie.After-enum-told
+fourteen-one fourteen = four-one (fourteen-four fourteen)
 
 count-check-requires : tie.Need-count-check-requires
 count-check-requires c κs = search needs
@@ -140,25 +147,11 @@ terms-fit : (four : tie.After-enum-told7) → termsFit (fields-at (four-one four
 terms-fit four =
     unless-passes (termsFit (fields-at (four-one four))) 4 Pass (sym (four-three four .before .before .terms-check .ensures) ∙ four .enum-told7 .given .1) .0
 
--- where the first four pass, the fifth is the answer
-fifth :
-    (four : tie.After-enum-told7) →
-    let s = fields-at (four-one four) in setCheck s (period-at (four-one four)) ≡ unless (ordered (figures s)) 5 Pass
-fifth four =
-    let three = four-three four in
-    fifth-answers _ _ (counted (four-one four)) (in-ranges (three-two three)) (period-ranged three) (terms-fit four)
+ranged-sheet : (four : tie.After-enum-told7) → Ranged fieldCount (fields-at (four-one four))
+ranged-sheet four = ranged (three-two (four-three four))
 
-figures-of-requires : tie.Need-figures-of-requires
-figures-of-requires c κs =
-    let h = ranged (three-two (four-three c)) in
-    (h, common-indexed _ h (terms-fit c))
-
-order-check-requires : tie.Need-order-check-requires
-order-check-requires c κs = search needs
-
--- the last answer is of the sheet's own figures
-order-is : (c : tie.After-order-check) → c .order-check .result ≡ unless (ordered (figures (fields-at (four-one (c .before .before))))) 5 Pass
-order-is c = c .order-check .ensures ∙ ap (λ charges. unless (ordered charges) 5 Pass) (c .before .figures-of .ensures)
+ocs-check-requires : tie.Need-ocs-check-requires
+ocs-check-requires c κs = (ranged-sheet c, common-indexed _ (ranged-sheet c) (terms-fit c))
 
 enum-told-9 : tie.Need-enum-told-9
 enum-told-9 c = search needs
@@ -173,26 +166,69 @@ returns-5 : tie.Need-returns-5
 returns-5 c =
     let told = c .before .enum-told10 .given .1 in
     let checked = c .before .before .before in
-    let four = checked .before .before in
-    answers-refusal _ _ _ _ _ told (c .refused5 .ensures) (fifth four ∙ sym (order-is checked) ∙ told)
+    let four = checked .before in
+    let three = four-three four in
+    answers-refusal _ _ _ _ _ told (c .refused5 .ensures)
+    (fourteenth-refuses _ _ _ (counted (four-one four)) (in-ranges (three-two three)) (period-ranged three) (terms-fit four) (sym (checked .ocs-check .ensures) ∙ told))
 
-shared-slice-read-single : tie.Need-shared-slice-read-single
-shared-slice-read-single c = let s = counted (four-one (c .before .before .before .before .before)) in search needs
+ocs-fit : (fourteen : tie.After-enum-told9) → ocsFit (fields-at (fourteen-one fourteen)) ≡ true
+ocs-fit fourteen =
+    unless-passes (ocsFit (fields-at (fourteen-one fourteen))) 14 Pass (sym (fourteen .before .before .ocs-check .ensures) ∙ fourteen .enum-told9 .given .1) .0
 
-shared-slice-read-economy : tie.Need-shared-slice-read-economy
-shared-slice-read-economy c = let s = counted (four-one (c .before .before .before .before .before .before)) in search needs
+-- where the others pass, the fifth is the answer
+fifth :
+    (fourteen : tie.After-enum-told9) →
+    let s = fields-at (fourteen-one fourteen) in setCheck s (period-at (fourteen-one fourteen)) ≡ unless (ordered (figures s)) 5 Pass
+fifth fourteen =
+    let four = fourteen-four fourteen in
+    let three = four-three four in
+    fifth-answers _ _ (counted (four-one four)) (in-ranges (three-two three)) (period-ranged three) (terms-fit four) (ocs-fit fourteen)
 
-days-requires : tie.Need-days-requires
-days-requires c κs = period-ranged (four-three (c .before .before .before .before .before .before))
+figures-of-requires : tie.Need-figures-of-requires
+figures-of-requires c κs =
+    let h = ranged-sheet (fourteen-four c) in
+    (h, common-costed _ h (terms-fit (fourteen-four c)) (ocs-fit c))
+
+order-check-requires : tie.Need-order-check-requires
+order-check-requires c κs = search needs
+
+-- the last answer is of the sheet's own figures
+order-is : (c : tie.After-order-check) → c .order-check .result ≡ unless (ordered (figures (fields-at (fourteen-one (c .before .before))))) 5 Pass
+order-is c = c .order-check .ensures ∙ ap (λ charges. unless (ordered charges) 5 Pass) (c .before .figures-of .ensures)
+
+enum-told-11 : tie.Need-enum-told-11
+enum-told-11 c = search needs
+
+enum-told-12 : tie.Need-enum-told-12
+enum-told-12 c = search needs
+
+refused-requires-6 : tie.Need-refused-requires-6
+refused-requires-6 c κs = search needs
 
 returns-6 : tie.Need-returns-6
-unfolding benchmarksOf
 returns-6 c =
+    let told = c .before .enum-told12 .given .1 in
+    let checked = c .before .before .before in
+    let fourteen = checked .before .before in
+    answers-refusal _ _ _ _ _ told (c .refused6 .ensures) (fifth fourteen ∙ sym (order-is checked) ∙ told)
+
+shared-slice-read-single : tie.Need-shared-slice-read-single
+shared-slice-read-single c = let s = counted (fourteen-one (c .before .before .before .before .before)) in search needs
+
+shared-slice-read-economy : tie.Need-shared-slice-read-economy
+shared-slice-read-economy c = let s = counted (fourteen-one (c .before .before .before .before .before .before)) in search needs
+
+days-requires : tie.Need-days-requires
+days-requires c κs = period-ranged (four-three (fourteen-four (c .before .before .before .before .before .before)))
+
+returns-7 : tie.Need-returns-7
+unfolding benchmarksOf
+returns-7 c =
     let five = c .before .before .before in
     let checked = five .before .before in
-    let four = checked .before .before in
+    let fourteen = checked .before .before in
     answers-pass _ _ _ refl (rw (checked .before .figures-of .ensures, c .days .ensures .0))
-    (fifth four ∙ sym (order-is checked) ∙ five .enum-told9 .given .1)
+    (fifth fourteen ∙ sym (order-is checked) ∙ five .enum-told11 .given .1)
 
 pub work-out-spec : {M : Type 1} → statement M
 work-out-spec =
@@ -218,13 +254,18 @@ work-out-spec =
     enum-told-8
     refused-requires-4
     returns-4
-    figures-of-requires
-    order-check-requires
+    ocs-check-requires
     enum-told-9
     enum-told-10
     refused-requires-5
     returns-5
+    figures-of-requires
+    order-check-requires
+    enum-told-11
+    enum-told-12
+    refused-requires-6
+    returns-6
     shared-slice-read-single
     shared-slice-read-economy
     days-requires
-    returns-6)
+    returns-7)

@@ -4,6 +4,7 @@ use mathlib.Core.Path.{_≡_, sym, _∙_, ap, ap₂}
 use mathlib.Core.Bool.{true, _&&_}
 use Prim.Native.Nat.{ℕ}
 use native.Mathlib.Omega.{arith}
+use lib.IntN.{pos}
 use lib.ListN.{getD}
 use lib.Dec.{ltb}
 use borrow.Author.Tests.{ltb-true}
@@ -78,7 +79,7 @@ returns-2 c =
     let a = st .args in
     let w = within _ _ _ _ (passed t .0) in
     let read = c .wide .ensures ∙ ap (λ (k : ℕ). getD (a .b .benchmarks .charges) k 0) (i .figure-index .ensures .0) in
-    ap benchmarkCharge (read ∙ charge-is (a .b) (st .pre) (passed t .1) (a .region) (a .arrangement) (a .method) (a .level) (w .region) (w .arrangement) (w .method) (ltb-true (a .level) 2 (w .fourth)))
+    ap benchmarkCharge (ap pos read ∙ charge-is (a .b) (st .pre) (passed t .1) (a .region) (a .arrangement) (a .method) (a .level) (w .region) (w .arrangement) (w .method) (ltb-true (a .level) 2 (w .fourth)))
     ∙ passed-on _ _ _ _ (benchmark-answer (a .b) (a .region) (a .arrangement) (a .method) (a .level)) (checks f) (t .enum-told .given .1)
 
 pub benchmark-spec : {M : Type 1} → statement M

@@ -10,7 +10,10 @@ use std::process::ExitCode;
 use std::time::Duration;
 
 use second::desk::{Desk, LINE_LIMIT};
-use second::{period_days, Book, NotOpened, Refusal, State, Tariff};
+use second::{
+    field_value, operating_costs, period_days, Book, NotOpened, Refusal, State, Tariff, FIELDS,
+    SMNCC,
+};
 
 const BLOCK: usize = 65_536;
 
@@ -26,6 +29,11 @@ struct WrongDesk {
 impl WrongDesk {
     fn is(&self, fault: &str) -> bool {
         self.fault == fault
+    }
+
+    /// The fault, if it is one of this call.
+    fn fault_of(&self, call: &str) -> Option<&str> {
+        self.fault.strip_prefix(call)?.strip_prefix(": ")
     }
 
     /// Takes what one read has given.
@@ -58,6 +66,10 @@ impl WrongDesk {
         if !ended && self.is("half a line is answered") {
             self.end_line(out);
         }
+        // Lines that come together with answered ones would shift those.
+        if ended && out.is_empty() && self.is("silent lines are answered") {
+            out.extend_from_slice(b"ok\n");
+        }
     }
 
     fn end_line(&mut self, out: &mut Vec<u8>) {
@@ -76,14 +88,18 @@ impl WrongDesk {
             _ => line,
         };
         let start = out.len();
-        self.desk.line(line, out);
-        if self.is("silent lines are answered") && out.len() == start {
-            out.extend_from_slice(b"ok\n");
-        }
-        let line = String::from_utf8_lossy(line);
-        let mut words = line.split_ascii_whitespace();
+        let text = String::from_utf8_lossy(line);
+        let mut words = text.split_ascii_whitespace();
         let call = words.next().unwrap_or_default();
         let numbers: Vec<u32> = words.flat_map(str::parse).collect();
+        match self.wrong_sheet(call, &numbers) {
+            Some(fields) if is_call(line) => {
+                let period = &numbers[..3];
+                self.desk
+                    .line(&call_line(call, &[period, &fields].concat()), out);
+            }
+            _ => self.desk.line(line, out),
+        }
         let answer = &out[start..];
         let wrong = match (call, answer) {
             ("trial", [b'o' | b'r', ..]) => self.wrong_trial(&numbers),
@@ -97,6 +113,55 @@ impl WrongDesk {
             out.extend_from_slice(refusal);
         } else if call == "set" && answer == b"ok\n" {
             self.in_force = numbers;
+        }
+    }
+
+    /// The fields of another sheet than the one in the call, for faults in SET or in TRIAL alone.
+    fn wrong_sheet(&self, call: &str, numbers: &[u32]) -> Option<Vec<u32>> {
+        let fault = self.fault_of(call)?;
+        let fields: &[u32; FIELDS] = numbers.get(3..)?.try_into().ok()?;
+        let smncc = field_value(SMNCC, fields[SMNCC]);
+        let other = |smncc: i64| {
+            let mut fields = *fields;
+            fields[SMNCC] = smncc as u32;
+            Some(fields.to_vec())
+        };
+        match fault {
+            "-100,000,001 is allowed" if smncc == -100_000_001 => return other(-100_000_000),
+            "-100,000,000 is not allowed" if smncc == -100_000_000 => return other(-100_000_001),
+            _ => {}
+        }
+        let refusal = trial(&Book::new(), numbers, numbers).err();
+        if smncc >= 0 || !matches!(refusal, None | Some(Refusal::OcBelowZero)) {
+            return None;
+        }
+        let four = operating_costs(fields.first_chunk()?).ok()?;
+        // OC is looked at in these places alone, and is 0 where it is below that in another.
+        let looked_at = |places: [bool; 4]| {
+            let four = std::array::from_fn(|i| if places[i] { four[i] } else { four[i].max(0) });
+            with_operating_costs(fields, four)
+        };
+        match fault {
+            "savings are refused" => other(100_000_001),
+            "a saving is taken for a cost" => other(-smncc),
+            "a saving in ones' complement" => other(smncc + 1),
+            "a saving at m alone" => {
+                with_operating_costs(fields, [four[0] - smncc, four[1], four[2] - smncc, four[3]])
+            }
+            "a saving at nil alone" => {
+                with_operating_costs(fields, [four[0], four[1] - smncc, four[2], four[3] - smncc])
+            }
+            "14 at nil alone" => looked_at([true, false, true, false]),
+            "14 at m alone" => looked_at([false, true, false, true]),
+            "14 for single-rate alone" => looked_at([true, true, false, false]),
+            "14 for Economy 7 alone" => looked_at([false, false, true, true]),
+            "no 14" => looked_at([false; 4]),
+            "14 for an OC of 0" if refusal.is_none() && four.contains(&0) => {
+                let mut fields = other(-1)?;
+                fields[12] = 0;
+                Some(fields)
+            }
+            _ => None,
         }
     }
 
@@ -167,27 +232,75 @@ impl WrongDesk {
 
     /// Another refusal than the one that comes first.
     fn wrong_refusal(&self, call: &str, numbers: &[u32], answer: &[u8]) -> Option<&'static [u8]> {
-        match (&self.fault[..], call, answer) {
-            ("put: 8 before 7", "put", b"refused 7\n") if Tariff::new(&numbers[1..]).is_none() => {
-                Some(b"refused 8\n")
+        let tried = |numbers: &[u32]| trial(&Book::new(), numbers, numbers).err();
+        let (applies, refusal): (bool, &[u8]) = match (self.fault_of(call)?, answer) {
+            ("8 before 7", b"refused 7\n") => {
+                (Tariff::new(&numbers[1..]).is_none(), b"refused 8\n")
             }
-            ("set: 3 before 2", "set", b"refused 2\n")
-            | ("trial: 3 before 2", "trial", b"refused 2\n")
-                if period_days(numbers[0], numbers[1], numbers[2]).is_none() =>
-            {
-                Some(b"refused 3\n")
+            ("3 before 2", b"refused 2\n") => {
+                let days = period_days(numbers[0], numbers[1], numbers[2]);
+                (days.is_none(), b"refused 3\n")
             }
-            ("quote: 13 before 10", "quote", b"refused 10\n") if numbers[1] > 13 => {
-                Some(b"refused 13\n")
+            ("14 before 4", b"refused 4\n") => {
+                let four = operating_costs(numbers[3..].first_chunk()?).ok()?;
+                (four.iter().any(|&oc| oc < 0), b"refused 14\n")
             }
-            ("maximum: 10 before 13", "maximum", b"refused 13\n")
-                if self.desk.book().t().is_none() =>
-            {
-                Some(b"refused 10\n")
+            ("14 before the terms of PAAC", b"refused 4\n") => {
+                let mut without = numbers.to_vec();
+                without[23..25].fill(0);
+                (
+                    tried(&without) == Some(Refusal::OcBelowZero),
+                    b"refused 14\n",
+                )
             }
-            _ => None,
-        }
+            ("14 after 5", b"refused 14\n") => {
+                let fields: &[u32; FIELDS] = numbers[3..].try_into().ok()?;
+                let four = operating_costs(fields.first_chunk()?).ok()?;
+                let raised = with_operating_costs(fields, four.map(|oc| oc.max(0)))?;
+                let raised = [&numbers[..3], &raised].concat();
+                (
+                    tried(&raised) == Some(Refusal::BenchmarkFalls),
+                    b"refused 5\n",
+                )
+            }
+            ("13 before 10", b"refused 10\n") => (numbers[1] > 13, b"refused 13\n"),
+            ("10 before 13", b"refused 13\n") => (self.desk.book().t().is_none(), b"refused 10\n"),
+            _ => return None,
+        };
+        applies.then_some(refusal)
     }
+}
+
+/// The fields of a sheet with these operating costs in place of its own, of which SMNCC is a
+/// part. `None` if one is below zero.
+fn with_operating_costs(fields: &[u32; FIELDS], four: [i64; 4]) -> Option<Vec<u32>> {
+    if four.iter().any(|&oc| oc < 0) {
+        return None;
+    }
+    let mut other = fields.to_vec();
+    // PAAC goes by the same index.
+    for paac in &mut other[20..22] {
+        let (n, d) = (
+            u64::from(*paac) * u64::from(fields[31]),
+            u64::from(fields[24]),
+        );
+        *paac = ((2 * n + d) / (2 * d)) as u32;
+    }
+    (other[24], other[31], other[SMNCC]) = (1, 1, 0);
+    other[12..16].copy_from_slice(&four.map(|oc| oc as u32));
+    Some(other)
+}
+
+/// Whether a line is a call, well written.
+fn is_call(line: &[u8]) -> bool {
+    let mut answer = Vec::new();
+    Desk::new().line(line, &mut answer);
+    !answer.starts_with(b"error")
+}
+
+fn call_line(call: &str, numbers: &[u32]) -> Vec<u8> {
+    let numbers: Vec<_> = numbers.iter().map(u32::to_string).collect();
+    format!("{call} {}", numbers.join(" ")).into_bytes()
 }
 
 /// A trial of the period of one call and of the fields of another.

@@ -60,6 +60,9 @@ impl Counts {
             _ if fell < was => "some",
             _ => "all",
         };
+        if was > 0 && is_saving(fields) {
+            count!(self, "trial of a saving: {which} would fall");
+        }
         if self.period.is_some() && tried.key == self.in_force {
             self.tally.one("trial of the sheet in force");
         } else if was > 0 && key(fields) == self.fields_in_force {

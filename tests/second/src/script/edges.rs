@@ -54,14 +54,16 @@ impl Writer {
         let (lowest, highest) = field_range(field);
         let value = if high { highest } else { lowest };
         let place = |dated: &mut Dated| {
-            dated.fields[field] = value;
+            dated.set_value(field, value);
             match field {
                 // At m as at nil, so that the benchmark does not fall.
-                0..=15 if high && field % 2 == 0 => dated.fields[field + 1] = value,
-                37..=92 if high && field % 2 == 1 => dated.fields[field + 1] = value,
+                0..=15 if high && field % 2 == 0 => dated.set_value(field + 1, value),
+                37..=92 if high && field % 2 == 1 => dated.set_value(field + 1, value),
                 // An index that has not moved.
-                22..=28 => dated.fields[field + 7] = value,
-                29..=35 if high => dated.fields[field - 7] = value,
+                22..=28 => dated.set_value(field + 7, value),
+                29..=35 if high => dated.set_value(field - 7, value),
+                // No OC is below zero.
+                SMNCC if !high => dated.operating([MONEY; 4]),
                 _ => {}
             }
         };
@@ -112,17 +114,21 @@ impl Writer {
             fields[index + 7] = scale * if index == 22 { 3 } else { 1 };
         }
 
+        if self.random.one_in(3) {
+            self.some_saving(dated);
+        }
+
         // Where the halves are.
-        let round = |n: u64, d: u64| (2 * n + d) / (2 * d);
-        let half = |n: u64, d: u64| 2 * (n % d) == d;
+        let round = |n: i64, d: i64| (2 * n + d) / (2 * d);
+        let half = |n: i64, d: i64| 2 * (n % d) == d;
         let ppm = 1_000_000;
-        let value = |field: usize| u64::from(fields[field]);
+        let value = |field: usize| dated.value(field);
         let product = |baseline: usize, index: usize| {
             (value(baseline) * value(29 + index), value(22 + index))
         };
         let (mut terms, mut paenc, mut headroom, mut panc) = (false, false, false, false);
         for four in 0..4 {
-            let mut cost = value(36);
+            let mut cost = value(SMNCC);
             for (baseline, index) in [(0, 0), (4, 1), (8, 3 + four), (12, 2)] {
                 let (n, d) = product(baseline + four, index);
                 terms |= half(n, d);
@@ -146,6 +152,10 @@ impl Writer {
             (paenc, "sheets with PAENC on a half"),
             (headroom, "sheets with headroom on a half"),
             (panc, "sheets with PANC on a half"),
+            (
+                dated.value(SMNCC) < 0 && (paenc || headroom),
+                "sheets with a saving, PAENC or headroom on a half",
+            ),
         ] {
             if met {
                 self.note(what);

@@ -16,6 +16,7 @@ impl Writer {
             5..=7 => self.unknown_call(),
             8..=12 => self.not_a_number(),
             13..=21 => self.wrong_count(),
+            22 if self.random.one_in(2) => self.minus_sign(),
             22 => self.junk(),
             _ if self.random.one_in(3) => self.long_line(),
             _ => b"#".to_vec(),
@@ -102,6 +103,17 @@ impl Writer {
             line.push(b' ');
         }
         line
+    }
+
+    /// A saving on the reference sheet, written with a minus sign.
+    pub(super) fn minus_sign(&mut self) -> Vec<u8> {
+        let mut line = self.random.pick(&["set", "trial"]).to_string();
+        for (i, number) in reference().numbers().into_iter().enumerate() {
+            line.push_str(if i == 3 + SMNCC { " -" } else { " " });
+            line.push_str(&number.to_string());
+        }
+        self.note("sheets with a minus sign before SMNCC");
+        line.into_bytes()
     }
 
     pub(super) fn wrong_count(&mut self) -> Vec<u8> {

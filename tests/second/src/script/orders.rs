@@ -3,27 +3,32 @@
 use super::*;
 
 /// The refusals of SET and TRIAL that one sheet can deserve together.
-const SHEET_FAULTS: [(u32, u32); 10] = [
+const SHEET_FAULTS: [(u32, u32); 15] = [
     (1, 2),
     (1, 3),
     (1, 4),
     (1, 5),
+    (1, 14),
     (2, 3),
     (2, 4),
     (2, 5),
+    (2, 14),
     (3, 4),
     (3, 5),
+    (3, 14),
     (4, 5),
+    (4, 14),
+    (14, 5),
 ];
 
 impl Writer {
     pub(super) fn two_faults(&mut self) {
-        match self.random.below(6) {
-            0 => self.sheet_with_two_faults("set"),
-            1 => self.sheet_with_two_faults("trial"),
-            2 => self.put_with_two_faults(),
-            3 => self.open_with_two_faults(),
-            4 => self.question_with_two_faults(),
+        match self.random.below(8) {
+            0..=1 => self.sheet_with_two_faults("set"),
+            2..=3 => self.sheet_with_two_faults("trial"),
+            4 => self.put_with_two_faults(),
+            5 => self.open_with_two_faults(),
+            6 => self.question_with_two_faults(),
             _ => self.quote_with_two_faults(),
         }
     }
@@ -31,7 +36,7 @@ impl Writer {
     fn sheet_with_two_faults(&mut self, call: &str) {
         let (first, second) = self.random.pick(&SHEET_FAULTS);
         let mut dated = reference();
-        // The highest number first: 1 changes the length.
+        // The later check first: 1 changes the length.
         self.sheet_fault(second, &mut dated);
         self.sheet_fault(first, &mut dated);
         let answer = Book::new().set_dated(&dated);
@@ -50,8 +55,15 @@ impl Writer {
             1 if self.random.one_in(2) => drop(dated.fields.pop()),
             1 => dated.fields.push(0),
             2 => {
-                let field = self.random.pick(&[16, 19, 21, 36, 92]);
-                dated.fields[field] = field_range(field).1 + 1;
+                let field = self.random.pick(&[16, 19, 21, SMNCC, 92]);
+                let (lowest, highest) = field_range(field);
+                let outside = if field == SMNCC {
+                    // OC is below zero too.
+                    lowest - 1
+                } else {
+                    highest + 1
+                };
+                dated.set_value(field, outside);
             }
             3 => match self.random.below(3) {
                 0 => dated.year = self.random.pick(&[2017, 2100]),
@@ -59,10 +71,24 @@ impl Writer {
                 _ => dated.t = self.random.pick(&[0, 13]),
             },
             4 => {
-                // The policy cost of single-rate nil alone: the benchmark at nil rises with it.
-                dated.fields[8] = MONEY;
-                dated.fields[25] = 1;
-                dated.fields[32] = 1_000_000_000;
+                // One of the terms alone. If a benchmark falls, not one that raises it at m.
+                let falls = Book::new().set_dated(dated) == Err(Refusal::BenchmarkFalls);
+                let at_m = |field: usize| field < 16 && field % 2 == 1;
+                let terms = (0..16).chain(20..22);
+                let terms: Vec<usize> = terms.filter(|&field| !falls || !at_m(field)).collect();
+                let field = self.random.pick(&terms);
+                dated.fields[field] = MONEY;
+                match field {
+                    // Indices that have not moved on the reference sheet.
+                    4..=7 => dated.fields[30] = 101,
+                    8..=11 => dated.fields[24 + field] = 101,
+                    _ => {}
+                }
+            }
+            14 => {
+                // 5,250,000 at nil.
+                let saving = self.random.between(5_250_001, MONEY);
+                dated.set_value(SMNCC, -i64::from(saving));
             }
             _ => {
                 let nil = 37 + 4 * self.region() as usize;

@@ -28,24 +28,24 @@ impl Writer {
                 _ => self.random.index(FIELDS),
             };
             let (lowest, highest) = field_range(field);
-            let value = dated.fields[field];
+            let value = dated.value(field);
             let changed = match self.random.below(if mild { 4 } else { 7 }) {
-                0 => value.saturating_sub(1),
+                0 => value - 1,
                 1 => value + 1,
-                2 => value - (u64::from(value) * self.random.below(40) / 1_000) as u32,
-                3 => value + (u64::from(value) * self.random.below(40) / 1_000) as u32,
+                2 => value - value * self.random.below(40) as i64 / 1_000,
+                3 => value + value * self.random.below(40) as i64 / 1_000,
                 4 => self.random.pick(&[lowest, highest]),
-                5 => self.random.between(lowest, highest),
-                _ => self.random.any_size(highest),
+                5 => lowest + self.random.below((highest - lowest) as u64 + 1) as i64,
+                _ => self.random.any_size(highest as u32).into(),
             };
-            dated.fields[field] = changed.clamp(lowest, highest);
+            dated.set_value(field, changed.clamp(lowest, highest));
         }
     }
 
     /// A sheet that SET takes, most of the time.
     pub(super) fn good_sheet(&mut self) -> Dated {
         let mut dated = reference();
-        match self.random.below(21) {
+        match self.random.below(25) {
             0 => return dated,
             1..=5 => {
                 let mild = self.random.one_in(2);
@@ -72,7 +72,11 @@ impl Writer {
             16 => self.extreme(&mut dated),
             17..=18 => self.brink_of_term(&mut dated),
             19 => self.brink_of_fall(&mut dated),
-            _ => self.halves(&mut dated),
+            20 => self.halves(&mut dated),
+            _ => {
+                dated = self.good_sheet();
+                self.saving(&mut dated);
+            }
         }
         dated
     }
@@ -165,9 +169,9 @@ impl Writer {
     pub(super) fn extreme(&mut self, dated: &mut Dated) {
         self.period(dated);
         let flat = self.random.one_in(2);
-        for (field, value) in dated.fields.iter_mut().enumerate() {
+        for (field, word) in dated.fields.iter_mut().enumerate() {
             let (lowest, highest) = field_range(field);
-            *value = match field {
+            let value = match field {
                 // The levels of a four: nil, then m.
                 0..=15 | 37..=92 => {
                     let nil = if field < 16 {
@@ -182,8 +186,11 @@ impl Writer {
                     }
                 }
                 22..=35 => highest,
+                // The lowest is more than most sheets can make up for.
+                SMNCC if !self.random.one_in(4) => highest,
                 _ => self.random.pick(&[lowest, highest]),
             };
+            *word = value as u32;
         }
         match self.random.below(4) {
             0 => dated.fields[22..36].fill(1),
@@ -199,9 +206,10 @@ impl Writer {
         for _ in 0..self.random.index(4) {
             let field = self.random.index(FIELDS);
             let (lowest, highest) = field_range(field);
-            dated.fields[field] = self
+            let value = self
                 .random
                 .pick(&[lowest, lowest + 1, highest - 1, highest]);
+            dated.set_value(field, value);
         }
     }
 
@@ -264,6 +272,9 @@ impl Writer {
         for pair in (37..93).step_by(2) {
             dated.fields[pair + 1] = MONEY;
         }
+        if self.random.one_in(3) {
+            self.some_saving(dated);
+        }
         let region = self.region() as usize;
         let field = 38 + 4 * region + 2 * self.random.index(2);
         dated.fields[field - 1] = self.random.between(10_000_000, 60_000_000);
@@ -291,7 +302,7 @@ impl Writer {
 
     /// One thing wrong with a sheet or its period.
     pub(super) fn spoil(&mut self, dated: &mut Dated) {
-        match self.random.below(12) {
+        match self.random.below(13) {
             0..=1 => {
                 let count = match self.random.below(3) {
                     0 => self.random.pick(&[0, 1, 93, 94, 96, 97, 98, 190, 1_000]),
@@ -303,33 +314,30 @@ impl Writer {
             }
             2..=7 => {
                 let field = match self.random.below(4) {
-                    0 => self.random.pick(&[22, 23, 24, 25, 26, 27, 28, 93, 94]),
+                    0 => self
+                        .random
+                        .pick(&[22, 23, 24, 25, 26, 27, 28, SMNCC, 93, 94]),
                     _ => {
                         self.spoilt = (self.spoilt + 1) % FIELDS;
                         self.spoilt
                     }
                 };
                 let (lowest, highest) = field_range(field);
-                let low = lowest > 0 && self.random.one_in(2);
-                let value = if low {
-                    lowest - 1
+                let word = if lowest != 0 && self.random.one_in(2) {
+                    (lowest - 1) as u32
                 } else {
-                    self.random.pick(&[
-                        highest + 1,
-                        highest + 1,
-                        highest + 2,
-                        0x8000_0000,
-                        0x8000_0001,
-                        u32::MAX,
-                    ])
+                    let above = (highest + 1) as u32;
+                    self.random
+                        .pick(&[above, above, above + 1, 0x8000_0000, 0x8000_0001, u32::MAX])
                 };
                 if let Some(place) = dated.fields.get_mut(field) {
-                    *place = value;
-                    self.note(if low {
-                        "sheets with a field below its range"
-                    } else {
-                        "sheets with a field above its range"
-                    });
+                    *place = word;
+                    let value = field_value(field, word);
+                    if value < lowest {
+                        self.note("sheets with a field below its range");
+                    } else if value > highest {
+                        self.note("sheets with a field above its range");
+                    }
                 }
             }
             8..=9 => match self.random.below(3) {
@@ -347,6 +355,12 @@ impl Writer {
                 if dated.fields.len() == FIELDS {
                     dated.fields[22 + index] = 1;
                     dated.fields[29 + index] = 1_000_000_000;
+                }
+            }
+            11 => {
+                // A saving greater than most operating costs.
+                if dated.fields.len() == FIELDS {
+                    dated.set_value(SMNCC, field_range(SMNCC).0);
                 }
             }
             _ => {

@@ -1,0 +1,60 @@
+-- The table of sheet S with a saving holds: the figures by computation, the verdict by the scan of the corners.
+-- Assumes nothing.
+use mathlib.Core.Path.{_≡_, refl}
+use mathlib.Core.List.{[], _∷_}
+use lib.IntN.{pos}
+use Rattle.laws.proofs.Pieces.{scan}
+use Rattle.laws.specs.Notions.{every, sum, total, tabulate, tabulateFrom, bit}
+use Rattle.calendar.specs.Calendar.{periodDays, periodInRange, monthBegins, lengthAt, monthLength, leapYear}
+use Rattle.sheet.specs.Sheet.{signed, valueOf, rangeOf, fieldInRange, fieldsInRange, round, roundSigned, indexed, fourFit, paacFits, termsFit}
+use Rattle.benchmark.specs.declared.Benchmarks.{Benchmarks}
+use Rattle.benchmark.specs.Benchmark.{benchmark, wc, pc, oc, nc, paenc, headroom, panc, figure, figures, ocsFit, ordered, setCheck, benchmarksOf}
+use Rattle.benchmark.specs.Common.{costsAt, sumFrom, common, commonAt, commons}
+use Rattle.tariff.specs.Tariff.{tariffOf, validTariff, validKind, singleRegister, ratesWithin, zeroFrom, within, rising}
+use Rattle.charge.specs.Charge.{arrangement, tierCharge, monthCharge, charge}
+use Rattle.charge.specs.Tiers.{tiersOf}
+use Rattle.cap.specs.Cap.{maximum, charged, capped, excess}
+use Rattle.cap.specs.Corners.{cornersTo}
+use Rattle.cap.proofs.Scanned.{scannedMonths}
+use Rattle.verdict.specs.Cells.{cell, offered, cellNumbers, over}
+use Rattle.verdict.proofs.Scanned.{scannedBelow, scannedVerdict}
+use Rattle.reference.specs.SheetS.{times, sheetS, periodS, flat}
+use Rattle.reference.specs.Savings.{saving, Savings}
+use Rattle.reference.proofs.Scanning.{by-scan}
+
+-- the figures with a saving of 500,000, worked out: each region's eight
+known : Benchmarks
+known =
+    record {
+      charges = times 14 (8387850 ∷ 65152890 ∷ 7807500 ∷ 63459500 ∷ 8387850 ∷ 71952210 ∷ 7807500 ∷ 70125500 ∷ []);
+      levels = 3000 ∷ 4000 ∷ [];
+      months = 3;
+      days = 92;
+    }
+
+is-known : benchmarksOf saving periodS ≡ known
+unfolding benchmarksOf figures figure tabulate tabulateFrom benchmark wc pc oc nc paenc headroom panc valueOf signed indexed round roundSigned sheetS times periodDays monthBegins lengthAt monthLength leapYear known
+is-known = refl
+
+falling : scannedVerdict known (tariffOf (flat 23960 18000)) ≡ over (cell 0 0) (0 ∷ 0 ∷ 0 ∷ []) (pos 386487000000)
+unfolding scannedVerdict scannedBelow offered bit cellNumbers arrangement scannedMonths cornersTo tiersOf scan tierCharge monthCharge charge maximum charged capped excess sum total known times
+falling = refl
+
+-- THE TABLE
+pub savings : Savings
+unfolding commons commonAt common sumFrom costsAt setCheck fieldsInRange fieldInRange valueOf signed rangeOf every termsFit fourFit paacFits ocsFit ordered periodInRange figures figure tabulate tabulateFrom benchmark wc pc oc nc paenc headroom panc indexed round roundSigned sheetS times validTariff validKind singleRegister ratesWithin zeroFrom within rising
+savings =
+    record {
+      words = (refl, refl, refl, refl, refl);
+      accepted = refl;
+      ocs = (refl, refl, refl, refl);
+      sums = refl;
+      credit = (refl, refl, refl, refl);
+      other = (refl, refl, refl, refl);
+      falls = by-scan (benchmarksOf saving periodS) known is-known (flat 23960 18000) _ refl falling;
+      nought = (refl, refl);
+      nought-accepted = refl;
+      nought-other = (refl, refl, refl);
+      nought-credit = (refl, refl, refl);
+      a-mill-lower = refl;
+    }

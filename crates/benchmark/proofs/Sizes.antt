@@ -13,6 +13,7 @@ use Rattle.laws.proofs.Every.{every-at}
 use Rattle.laws.proofs.Signed.{UpTo, up-to-sum, up-to, sum-at-most, sum-mag}
 use Rattle.sheet.specs.Sheet.{fieldCount, smncc, ocTerm, round, roundSigned}
 use Rattle.sheet.specs.Ranged.{Ranged, Indexed}
+use Rattle.sheet.proofs.Round.{round-alike}
 use Rattle.sheet.proofs.Bounds.{ppm-most, money-most, smncc-bounds, smncc-mag, df-most, cm-most, pc-most, oc-most, paac-most}
 use Rattle.benchmark.specs.Benchmark.{nc, wc, pc, oc, paenc, headroom, panc, ocsFit}
 use Rattle.benchmark.specs.Common.{costsAt}
@@ -25,8 +26,7 @@ share-most p n h = omega (arith, mul-le-mul-right n h)
 
 -- and of a number that is not below zero not below zero
 share-up-to : (p : ℕ) (z : ℤ) (most : ℕ) → p ≤ 1000000 → UpTo z most → UpTo (roundSigned (pos p *ℤ z) 1000000) most
-unfolding roundSigned round
-share-up-to p z most h (n, e, l) = (round (p * n) 1000000, rw e, omega (arith, share-most p n h))
+share-up-to p z most h (n, e, l) = (round (p * n) 1000000, rw e (round-alike (p * n) 1000000), omega (arith, share-most p n h))
 
 -- of the common fields
 module _ (s : List ℕ) (h : Indexed s) where

@@ -77,8 +77,8 @@ fieldsInRange s = every fieldCount (λ k. fieldInRange k (field s k))
 unfoldable pub round : ℕ → ℕ → ℕ
 round n d = (2 * n + d) / (2 * d)
 
--- the same of a signed n: `shrZ` is the quotient rounded down. No sheet that SET accepts has it of an n below zero
--- (benchmark/specs/Signs.antt)
+-- the same of a signed n: `shrZ` is the quotient rounded down (proofs/Round.antt, `round-alike`). No sheet that SET accepts has it of
+-- an n below zero (benchmark/specs/Signs.antt)
 unfoldable pub roundSigned : ℤ → ℕ → ℤ
 roundSigned n d = shrZ (pos 2 *ℤ n +ℤ pos d) (2 * d)
 

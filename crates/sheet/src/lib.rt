@@ -1,7 +1,7 @@
-// The cost sheet: 95 numbers, the range of each, and the eighteen indexed terms, worked out from fields 0 to 36.
-// Promise: `fields_in_range` is refusal 2 and `terms_fit` refusal 4, turned round; each term is Round(baseline × current, initial).
-// What the layer above may use: the terms' names, `Ranged` and `Indexed` of specs/Ranged.antt, the bounds in proofs/Bounds.antt, and what
-// depends on fields 0 to 36 alone, proofs/CommonFields.antt.
+// The cost sheet: 95 words, the number that each stands for and its range, and the eighteen indexed terms, worked out from fields 0 to 36.
+// Promise: `fields_in_range` is refusal 2 and `terms_fit` refusal 4, turned round; each term is Round(baseline × current, initial), and
+// `smncc_of` is SMNCC with its sign. What the layer above may use: the terms' names and `smncc`, `Ranged` and `Indexed` of
+// specs/Ranged.antt, the bounds in proofs/Bounds.antt, and what depends on fields 0 to 36 alone, proofs/CommonFields.antt.
 ghost use mathlib.Core.Path.{_≡_};
 ghost use mathlib.Core.Bool.{true};
 ghost use Prim.Native.Nat.{_+_, _*_, _≤_, _<_};

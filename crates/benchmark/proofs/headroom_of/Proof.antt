@@ -1,10 +1,10 @@
 -- `benchmark::headroom_of` meets its contract. HAP is at most 1,000,000, so its part of the costs is at most the costs.
 -- Assumes nothing.
-use mathlib.Core.Path.{ap}
+use mathlib.Core.Path.{sym, _∙_, ap}
 use native.Mathlib.Omega.{arith}
 use lib.IntN.{pos}
 use borrow.Author.Needs.{needs}
-use Rattle.sheet.specs.Sheet.{round, roundSigned}
+use Rattle.sheet.proofs.Round.{round-alike}
 use Rattle.sheet.proofs.Bounds.{ppm-most}
 use Rattle.benchmark.specs.Benchmark.{headroom}
 use Rattle.benchmark.proofs.headroom_of.Statement.{statement}
@@ -25,8 +25,8 @@ ppm-of-requires c κs =
     (ppm-most _ (start .pre .0 .ranged) _ (omega arith) (omega arith) (omega arith), omega arith)
 
 returns : tie.Need-returns
-unfolding headroom roundSigned round
-returns c = (ap pos (c .ppm-of .ensures .0), c .ppm-of .ensures .1)
+unfolding headroom
+returns c = (ap pos (c .ppm-of .ensures .0) ∙ sym (round-alike _ 1000000), c .ppm-of .ensures .1)
 
 pub headroom-of-spec : {M : Type 1} → statement M
 headroom-of-spec = tie.close (tie.spec add-ppm-of mul-ppm-of shared-slice-read-ppm-of ppm-of-requires returns)

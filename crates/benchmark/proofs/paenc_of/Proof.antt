@@ -1,8 +1,10 @@
 -- `benchmark::paenc_of` meets its contract. PAP is at most 1,000,000, so its part of the costs is at most the costs.
 -- Assumes nothing.
+use mathlib.Core.Path.{sym, _∙_, ap, ap₂}
 use native.Mathlib.Omega.{arith}
+use lib.IntN.{pos, _+ℤ_}
 use borrow.Author.Needs.{needs}
-use Rattle.sheet.specs.Sheet.{round, roundSigned}
+use Rattle.sheet.proofs.Round.{round-alike}
 use Rattle.sheet.proofs.Bounds.{ppm-most, paac-most}
 use Rattle.benchmark.specs.Benchmark.{paenc}
 use Rattle.benchmark.proofs.paenc_of.Statement.{statement}
@@ -31,10 +33,10 @@ add-result c =
     omega (arith, paac-most _ (start .pre .0) _ (start .pre .1))
 
 returns : tie.Need-returns
-unfolding paenc roundSigned round
+unfolding paenc
 returns c =
     let start = c .before .before .before .before in (
-      rw (c .ppm-of .ensures .0, c .before .before .paac-term .ensures),
+      ap₂ _+ℤ_ (ap pos (c .before .before .paac-term .ensures)) (ap pos (c .ppm-of .ensures .0) ∙ sym (round-alike _ 1000000)),
       omega (arith, paac-most _ (start .pre .0) _ (start .pre .1)),
     )
 

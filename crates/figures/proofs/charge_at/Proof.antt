@@ -1,8 +1,10 @@
 -- `figures::charge_at` meets its contract. NC is at most 100,000,000 and PANC at most NC.
 -- Assumes nothing.
+use mathlib.Core.Path.{_≡_, sym, _∙_, ap}
 use Prim.Native.Nat.{_≤_}
+use lib.IntN.{pos, _+ℤ_}
 use native.Mathlib.Omega.{arith}
-use Rattle.sheet.specs.Sheet.{round, roundSigned}
+use Rattle.sheet.proofs.Round.{round-alike}
 use Rattle.sheet.proofs.Bounds.{ppm-most, money-most}
 use Rattle.benchmark.specs.Benchmark.{nc, panc}
 use borrow.Author.Needs.{needs}
@@ -54,9 +56,16 @@ add-result-2 : tie.Need-add-result-2
 add-result-2 c = omega (arith, network-small (c .before .before))
 
 returns : tie.Need-returns
-unfolding nc panc roundSigned round
+unfolding nc panc
 returns c =
-    (rw (c .ppm-of .ensures .0, c .before .before .wide .ensures), omega (arith, network-small (c .before .before)))
+    let start = c .before .before .before .before .before in
+    let s = start .args .s .now in
+    let share : pos (c .ppm-of .result) ≡ panc s (start .args .method) (pos (c .before .before .wide .result)) =
+    ap pos (c .ppm-of .ensures .0) ∙ sym (round-alike _ 1000000) in (
+      ap (λ p. pos (start .args .sum) +ℤ pos (c .before .before .wide .result) +ℤ p) share
+          ∙ ap (λ n. pos (start .args .sum) +ℤ pos n +ℤ panc s (start .args .method) (pos n)) (c .before .before .wide .ensures),
+      omega (arith, network-small (c .before .before)),
+    )
 
 pub charge-at-spec : {M : Type 1} → statement M
 charge-at-spec =

@@ -132,11 +132,16 @@ module _ (s : List ℕ) (h : Ranged fieldCount s) (i : Costed (commonFields s)) 
       rw (benchmark-is-sum s r a p l ha hp hl) (up-to-sum _ _ 2300000000 100000000 sum (panc-up-to s h p _ 100000000 hp network))
 
   -- a figure is the benchmark that it is kept for
+  benchmark-at : (k : ℕ) → k < 112 → UpTo (benchmark s (k / 8) (k / 4 % 2) (k / 2 % 2) (k % 2)) 2400000000
+  benchmark-at k l = benchmark-up-to (k / 8) (k / 4 % 2) (k / 2 % 2) (k % 2) (omega arith) (omega arith) (omega arith) (omega arith)
+
   pub figure-is-whole : (k : ℕ) → k < 112 → pos (figure s k) ≡ benchmark s (k / 8) (k / 4 % 2) (k / 2 % 2) (k % 2)
   unfolding figure
-  figure-is-whole k l =
-      up-to-whole _ 2400000000
-      (benchmark-up-to (k / 8) (k / 4 % 2) (k / 2 % 2) (k % 2) (omega arith) (omega arith) (omega arith) (omega arith))
+  figure-is-whole k l = up-to-whole _ 2400000000 (benchmark-at k l)
+
+  pub figure-most : (k : ℕ) → k < 112 → figure s k ≤ 2400000000
+  unfolding figure
+  figure-most k l = up-to-most _ 2400000000 (benchmark-at k l)
 
   -- the figure at an index of the 112 is its sum among the eight, NC and PANC
   pub figure-is-sum :

@@ -12,7 +12,6 @@ use lib.ListN.{length, getD, List·getD-eq-default}
 use borrow.Author.Tests.{leb-true, eqb-true}
 use Rattle.laws.proofs.Lists.{length-tabulate, getD-tabulate}
 use Rattle.laws.proofs.Every.{every-at}
-use Rattle.laws.proofs.Signed.{up-to-most}
 use Rattle.refusal.specs.declared.Check.the-variants.{Pass}
 use Rattle.calendar.specs.declared.Period.{Period}
 use Rattle.calendar.specs.Calendar.{periodInRange}
@@ -26,7 +25,7 @@ use Rattle.benchmark.specs.Benchmark.{figureIndex, benchmark, figure, fi
 use Rattle.benchmark.specs.Signs.{Costed, NoneBelowZero}
 use Rattle.benchmark.specs.Lawful.{Lawful}
 use Rattle.refusal.proofs.Checks.{unless-passes}
-use Rattle.benchmark.proofs.Commons.{benchmark-up-to, figure-is-whole}
+use Rattle.benchmark.proofs.Commons.{figure-is-whole, figure-most}
 use Rattle.benchmark.proofs.Signs.{common-costed, none-below-zero}
 
 module _ (s : List ℕ) (p : Period) (e : setCheck s p ≡ Pass) where
@@ -93,18 +92,12 @@ module _ (s : List ℕ) (h : Ranged fieldCount s) (i : Costed (commonFields s)) 
   charge-at-index r a p l hr ha hp hl =
       ap pos (figure-at-index s (figureIndex r a p l) (omega arith)) ∙ figure-of-index r a p l hr ha hp hl
 
-  figure-most : (k : ℕ) → k < 112 → figure s k ≤ 2400000000
-  unfolding figure
-  figure-most k l =
-      up-to-most _ 2400000000
-      (benchmark-up-to s h i (k / 8) (k / 4 % 2) (k / 2 % 2) (k % 2) (omega arith) (omega arith) (omega arith) (omega arith))
-
   pub charge-most : (k : ℕ) → getD (figures s) k 0 ≤ 2400000000
   charge-most k = go (decLe 112 k)
     where
       go : Dec (112 ≤ k) → getD (figures s) k 0 ≤ 2400000000
       go (yes l) = omega (arith, List·getD-eq-default (figures s) 0 {n = k} (omega (arith, figure-count s)))
-      go (no l) = omega (arith, figure-at-index s k (omega arith), figure-most k (omega arith))
+      go (no l) = omega (arith, figure-at-index s k (omega arith), figure-most s h i k (omega arith))
 
 -- no figure at m is below its figure at nil
 pub ordered-at : (charges : List ℕ) → ordered charges ≡ true → (j : ℕ) → j < 56 → getD charges (2 * j) 0 ≤ getD charges (2 * j + 1) 0

@@ -6,15 +6,15 @@ use Prim.Native.Nat.{ℕ, _+_, _*_, _<_, _≤_}
 use native.Mathlib.Nat.{mul-le-mul-right}
 use native.Mathlib.Omega.{arith}
 use lib.IntN.{ℤ, pos, _*ℤ_}
-use lib.Signed.{leZ}
+use lib.Signed.{mag, leZ}
 use mir.Syntax.{w64}
 use mir.Val.{SFits}
 use Rattle.laws.proofs.Every.{every-at}
-use Rattle.laws.proofs.Signed.{UpTo, up-to-sum, up-to, sum-at-most, sum-mag}
+use Rattle.laws.proofs.Signed.{UpTo, up-to-sum, up-to, sum-mag}
 use Rattle.sheet.specs.Sheet.{fieldCount, smncc, ocTerm, round, roundSigned}
 use Rattle.sheet.specs.Ranged.{Ranged, Indexed}
 use Rattle.sheet.proofs.Round.{round-alike}
-use Rattle.sheet.proofs.Bounds.{ppm-most, money-most, smncc-bounds, smncc-mag, df-most, cm-most, pc-most, oc-most, paac-most}
+use Rattle.sheet.proofs.Bounds.{ppm-most, money-most, smncc-mag, df-most, cm-most, pc-most, oc-most, paac-most}
 use Rattle.benchmark.specs.Benchmark.{nc, wc, pc, oc, paenc, headroom, panc, ocsFit}
 use Rattle.benchmark.specs.Common.{costsAt}
 use Rattle.benchmark.specs.Signs.{Costed}
@@ -38,11 +38,13 @@ module _ (s : List ℕ) (h : Indexed s) where
   unfolding pc
   pc-up-to f l = (_, refl, pc-most s h f l)
 
-  -- OC fits 64 bits with a sign, below zero too
-  pub oc-fits : (f : ℕ) → f < 4 → SFits w64 (oc s f)
+  -- OC, below zero or not, and that it fits 64 bits with its sign
+  oc-mag : (f : ℕ) → f < 4 → mag (oc s f) ≤ 200000000
   unfolding oc
-  oc-fits f l =
-      record { sfits = omega (arith, sum-mag (ocTerm s f) (smncc s), oc-most s h f l, smncc-mag s (h .ranged) (omega arith)) }
+  oc-mag f l = omega (arith, sum-mag (ocTerm s f) (smncc s), oc-most s h f l, smncc-mag s (h .ranged) (omega arith))
+
+  pub oc-fits : (f : ℕ) → f < 4 → SFits w64 (oc s f)
+  oc-fits f l = record { sfits = omega (arith, oc-mag f l) }
 
   pub paenc-up-to : (p : ℕ) (z : ℤ) → p < 2 → UpTo z 500000000 → UpTo (paenc s p z) 600000000
   unfolding paenc
@@ -56,11 +58,8 @@ module _ (s : List ℕ) (h : Indexed s) where
 -- of those that refusal 14 lets pass too
 module _ (s : List ℕ) (h : Costed s) where
   pub oc-up-to : (f : ℕ) → f < 4 → UpTo (oc s f) 200000000
-  unfolding oc ocsFit
-  oc-up-to f l =
-      up-to (oc s f) 200000000
-      (every-at (λ k. leZ (pos 0) (oc s k)) 4 (h .ocs) f l)
-      (sum-at-most (ocTerm s f) (smncc s) 100000000 100000000 (oc-most s (h .indexed) f l) (smncc-bounds s (h .indexed .ranged) (omega arith) .1))
+  unfolding ocsFit
+  oc-up-to f l = up-to (oc s f) 200000000 (every-at (λ k. leZ (pos 0) (oc s k)) 4 (h .ocs) f l) (oc-mag s (h .indexed) f l)
 
   pub costs-up-to : (f : ℕ) → f < 4 → UpTo (costsAt s f) 500000000
   unfolding costsAt

@@ -4,7 +4,7 @@ use mathlib.Core.Path.{_≡_, refl, sym, _∙_, ap}
 use mathlib.Core.Bool.{Bool, true, false}
 use Prim.Native.Nat.{ℕ, suc, _+_, _-_, _<_, _≤_}
 use native.Mathlib.Omega.{arith}
-use lib.Dec.{ltb, le→leb, leb→le}
+use lib.Dec.{ltb, le→leb}
 use lib.IntN.{ℤ, pos, negsuc, natAbs, _+ℤ_, +ℤ-assoc, +ℤ-comm}
 use lib.Signed.{mag, leZ, ltZ, _≤ℤ_}
 use borrow.Author.Tests.{ltb-true, le-leb}
@@ -26,24 +26,16 @@ up-to-whole z most (n, e, l) = rw e
 pub up-to-most : (z : ℤ) (most : ℕ) → UpTo z most → natAbs z ≤ most
 up-to-most z most (n, e, l) = rw e l
 
--- what is neither below zero nor above most is one
-pub up-to : (z : ℤ) (most : ℕ) → leZ (pos 0) z ≡ true → z ≤ℤ pos most → UpTo z most
-up-to (pos n) most e h = (n, refl, leb→le n most (h .le))
+-- what is not below zero, and no further from it than most, is one
+pub up-to : (z : ℤ) (most : ℕ) → leZ (pos 0) z ≡ true → mag z ≤ most → UpTo z most
+up-to (pos n) most e h = (n, refl, h)
 up-to (negsuc n) most e h = never (cc)
 
 -- the last two of three summands exchanged
 pub add-right-comm : (a b c : ℤ) → a +ℤ b +ℤ c ≡ a +ℤ c +ℤ b
 add-right-comm a b c = +ℤ-assoc a b c ∙ ap (λ x. a +ℤ x) (+ℤ-comm b c) ∙ sym (+ℤ-assoc a c b)
 
--- a number and a signed one: their sum is at most what they are at most, and no further from zero than both together
-pub sum-at-most : (t : ℕ) (z : ℤ) (m n : ℕ) → t ≤ m → z ≤ℤ pos n → (pos t +ℤ z) ≤ℤ pos (m + n)
-sum-at-most t (pos k) m n h l = record { le = le→leb (t + k) (m + n) (omega (arith, leb→le k n (l .le))) }
-sum-at-most t (negsuc k) m n h l = go (ltb t (suc k)) refl
-  where
-    go : (b : Bool) → ltb t (suc k) ≡ b → (pos t +ℤ negsuc k) ≤ℤ pos (m + n)
-    go true e = rw e (record { le = tt })
-    go false e = rw e (record { le = le→leb (t - suc k) (m + n) (omega arith) })
-
+-- a number and a signed one: their sum is no further from zero than both together
 pub sum-mag : (t : ℕ) (z : ℤ) → mag (pos t +ℤ z) ≤ t + mag z
 sum-mag t (pos k) = omega arith
 sum-mag t (negsuc k) = go (ltb t (suc k)) refl

@@ -49,12 +49,10 @@ savings =
       accepted = refl;
       ocs = (refl, refl, refl, refl);
       sums = refl;
-      credit = (refl, refl, refl, refl);
-      other = (refl, refl, refl, refl);
+      benchmarks = refl;
       falls = by-scan (benchmarksOf saving periodS) known is-known (flat 23960 18000) _ refl falling;
       nought = (refl, refl);
       nought-accepted = refl;
-      nought-other = (refl, refl, refl);
-      nought-credit = (refl, refl, refl);
+      nought-benchmarks = refl;
       a-mill-lower = refl;
     }

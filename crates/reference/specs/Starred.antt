@@ -3,9 +3,10 @@
 use mathlib.Core.Path.{_≡_}
 use mathlib.Core.Bool.{Bool, true, false}
 use mathlib.Core.List.{List, [], _∷_}
-use Prim.Native.Nat.{ℕ}
+use Prim.Native.Nat.{ℕ, _/_, _%_}
 use lib.Dec.{eqb}
 use lib.IntN.{ℤ, pos, negsuc, _-ℤ_}
+use lib.ListN.{getD}
 use Rattle.laws.specs.Notions.{every}
 use Rattle.refusal.specs.declared.Check.the-variants.{Pass}
 use Rattle.calendar.specs.Calendar.{periodDays}
@@ -38,9 +39,13 @@ abbrev pub isWhole : ℤ → ℕ → Bool
 isWhole (pos m) n = eqb m n
 isWhole (negsuc m) n = false
 
--- in every region of a sheet, alike
-abbrev pub everywhere : List ℕ → ℕ → ℕ → ℕ → ℕ → Bool
-everywhere s arrangement method level charge = every 14 (λ region. isWhole (benchmark s region arrangement method level) charge)
+-- whether these are the eight benchmarks of a region, by arrangement, method and level
+abbrev pub eightAre : List ℕ → ℕ → List ℕ → Bool
+eightAre s region charges = every 8 (λ j. isWhole (benchmark s region (j / 4) (j / 2 % 2) (j % 2)) (getD charges j 0))
+
+-- in every region, alike
+abbrev pub everywhere : ℕ → ℕ → ℕ → ℕ → Bool
+everywhere arrangement method level charge = every 14 (λ region. isWhole (benchmark sheetS region arrangement method level) charge)
 
 pub record Starred : Type 0 where
   pub accepted : setCheck sheetS periodS ≡ Pass
@@ -48,11 +53,11 @@ pub record Starred : Type 0 where
   -- the eight sums that no region is in, by arrangement, method and level (not in the paper: worked out by hand)
   pub sums : commons (commonFields sheetS) ≡ 7378050 ∷ 53943090 ∷ 6817500 ∷ 52469500 ∷ 7378050 ∷ 60742410 ∷ 6817500 ∷ 59135500 ∷ []
   -- single-rate, Other and Standard Credit, at nil and m; Economy 7, Other, at m
-  pub other-nil : everywhere sheetS 0 1 0 8817500 ≡ true
-  pub other-m : everywhere sheetS 0 1 1 64469500 ≡ true
-  pub credit-nil : everywhere sheetS 0 0 0 9418050 ≡ true
-  pub credit-m : everywhere sheetS 0 0 1 66183090 ≡ true
-  pub economy-m : everywhere sheetS 1 1 1 71135500 ≡ true
+  pub other-nil : everywhere 0 1 0 8817500 ≡ true
+  pub other-m : everywhere 0 1 1 64469500 ≡ true
+  pub credit-nil : everywhere 0 0 0 9418050 ≡ true
+  pub credit-m : everywhere 0 0 1 66183090 ≡ true
+  pub economy-m : everywhere 1 1 1 71135500 ≡ true
   -- standing charge 23,000, 23,960 and 23,961 with one rate of 18,000
   pub within : verdictOn (flat 23000 18000) ≡ opens 28
   pub just-within : verdictOn (flat 23960 18000) ≡ opens 28

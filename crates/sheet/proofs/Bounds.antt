@@ -6,16 +6,16 @@ use mathlib.Core.List.{List}
 use Prim.Native.Nat.{ℕ, _<_, _≤_}
 use native.Mathlib.Decide.{decLe}
 use native.Mathlib.Omega.{arith}
-use lib.Dec.{leb, leb→le}
-use lib.IntN.{ℤ, pos, negsuc, negℤ}
-use lib.Signed.{mag, _≤ℤ_}
+use lib.Dec.{leb}
+use lib.IntN.{pos}
+use lib.Signed.{mag}
 use lib.ListN.{length}
 use borrow.Author.Tests.{leb-true}
 use Rattle.laws.specs.Notions.{every}
 use Rattle.laws.proofs.Every.{every-at, and-left, and-right}
 use Rattle.sheet.specs.Sheet.{fieldCount, field, smnccField, valueOf, smncc, rangeOf, fieldInRange, fieldsInRange, termMost, dfTerm, cmTerm, pcTerm, ocTerm, paacTerm, fourFit, paacFits, termsFit}
 use Rattle.sheet.specs.Ranged.{Ranged, Indexed}
-use Rattle.sheet.proofs.Ranges.{money-first, ppm-at, money-middle, initial-at, current-at, money-last, level-at, plain-bounds, net-cost-bounds}
+use Rattle.sheet.proofs.Ranges.{money-first, ppm-at, money-middle, initial-at, current-at, money-last, level-at, plain-bounds, net-cost-mag}
 
 -- a sheet that refusals 1 and 2 let pass
 pub all-ranged : (s : List ℕ) → length s ≡ fieldCount → fieldsInRange s ≡ true → Ranged fieldCount s
@@ -59,16 +59,9 @@ module _ {n : ℕ} (s : List ℕ) (h : Ranged n s) (k : ℕ) (there : k < n) whe
   level-most g l = bounds 1 20000 (λ e. omega arith) (level-at k g l) .1
 
 -- SMNCC, field 36
-pub smncc-bounds : {n : ℕ} (s : List ℕ) → Ranged n s → smnccField < n → (negℤ (pos 100000000) ≤ℤ smncc s) × (smncc s ≤ℤ pos 100000000)
-unfolding valueOf
-smncc-bounds s h there = net-cost-bounds (field s smnccField) (h .ranges smnccField there)
-
-mag-most : (z : ℤ) → negℤ (pos 100000000) ≤ℤ z → z ≤ℤ pos 100000000 → mag z ≤ 100000000
-mag-most (pos n) low high = leb→le n 100000000 (high .le)
-mag-most (negsuc n) low high = omega (arith, leb→le n 99999999 (low .le))
-
 pub smncc-mag : {n : ℕ} (s : List ℕ) → Ranged n s → smnccField < n → mag (smncc s) ≤ 100000000
-smncc-mag s h there = let b = smncc-bounds s h there in mag-most (smncc s) (b .0) (b .1)
+unfolding valueOf
+smncc-mag s h there = net-cost-mag (field s smnccField) (h .ranges smnccField there)
 
 -- four tests that hold together
 four-parts : (a b c d : Bool) → (a && b && c && d) ≡ true → (a ≡ true) × (b ≡ true) × (c ≡ true) × (d ≡ true)

@@ -5,8 +5,8 @@ use mathlib.Core.Bool.{Bool, true, false, _&&_}
 use Prim.Native.Nat.{ℕ, _<_, _≤_}
 use native.Mathlib.Omega.{arith}
 use lib.Dec.{leb}
-use lib.IntN.{ℤ, pos, negℤ}
-use lib.Signed.{leZ, _≤ℤ_, leZ-yes}
+use lib.IntN.{ℤ, pos, negsuc, negℤ}
+use lib.Signed.{mag, leZ}
 use borrow.Author.Tests.{le-leb, lt-leb, leb-true}
 use Rattle.laws.proofs.Every.{and-left, and-right}
 use Rattle.sheet.specs.declared.Range.{Range}
@@ -67,13 +67,17 @@ plain-bounds k word low high h range e =
     let both : (leb low word && leb word high) ≡ true = rw (range, plain-value k word h) at e in
     (leb-true low word (and-left (leb low word) (leb word high) both), leb-true word high (and-right (leb low word) (leb word high) both))
 
--- and that of field 36
-pub net-cost-bounds : (word : ℕ) → fieldInRange smnccField word ≡ true → (negℤ (pos 100000000) ≤ℤ signed word) × (signed word ≤ℤ pos 100000000)
+-- and that of field 36: the number is no further from zero than 100,000,000
+mag-within : (z : ℤ) → leZ (negℤ (pos 100000000)) z ≡ true → leZ z (pos 100000000) ≡ true → mag z ≤ 100000000
+mag-within (pos n) low high = leb-true n 100000000 high
+mag-within (negsuc n) low high = omega (arith, leb-true n 99999999 low)
+
+pub net-cost-mag : (word : ℕ) → fieldInRange smnccField word ≡ true → mag (signed word) ≤ 100000000
 unfolding fieldInRange rangeOf valueOf
-net-cost-bounds word e =
+net-cost-mag word e =
     let low : Bool = leZ (negℤ (pos 100000000)) (signed word) in
     let high : Bool = leZ (signed word) (pos 100000000) in
-    (leZ-yes (rw (and-left low high e) tt), leZ-yes (rw (and-right low high e) tt))
+    mag-within (signed word) (and-left low high e) (and-right low high e)
 
 -- the test made with a range that is the field's, of the number that the word stands for
 module _ (k word : ℕ) (r : Range) (value : ℤ) (e : r ≡ rangeOf k) (v : value ≡ valueOf k word) where

@@ -3,25 +3,20 @@
 use mathlib.Core.Path.{_≡_}
 use mathlib.Core.Bool.{Bool, true, false}
 use mathlib.Core.List.{List, [], _∷_}
-use Prim.Native.Nat.{ℕ, _/_, _%_}
+use Prim.Native.Nat.{ℕ}
 use lib.Dec.{eqb}
 use lib.IntN.{pos}
-use lib.ListN.{getD}
 use Rattle.laws.specs.Notions.{every}
 use Rattle.refusal.specs.declared.Check.{Check}
 use Rattle.refusal.specs.declared.Check.the-variants.{Pass, Refuse}
 use Rattle.calendar.specs.Calendar.{periodDays}
 use Rattle.sheet.specs.CommonFields.{commonFields}
-use Rattle.benchmark.specs.Benchmark.{wc, pc, oc, paenc, headroom, nc, panc, benchmark, benchmarksOf, setCheck}
+use Rattle.benchmark.specs.Benchmark.{wc, pc, oc, paenc, headroom, nc, panc, benchmarksOf, setCheck}
 use Rattle.benchmark.specs.Common.{commons}
 use Rattle.tariff.specs.Tariff.{tariffOf, recordCheck}
 use Rattle.verdict.specs.Cells.{cell, Verdict, opens, over, verdict}
-use Rattle.reference.specs.Starred.{isWhole}
+use Rattle.reference.specs.Starred.{eightAre}
 use Rattle.unlike.specs.SheetU.{sheetU, periodU, threeTiers, peakAt, threeRegisters, allInOne, lonePair}
-
--- whether these are the eight figures of a region, by arrangement, method and level
-abbrev pub eightAre : ℕ → List ℕ → Bool
-eightAre region charges = every 8 (λ j. isWhole (benchmark sheetU region (j / 4) (j / 2 % 2) (j % 2)) (getD charges j 0))
 
 -- the verdict on a record
 abbrev pub verdictOn : List ℕ → Verdict
@@ -41,8 +36,8 @@ pub record Unlike : Type 0 where
   pub shares-traced : (paenc sheetU 0 (pos 54270550) ≡ pos 1505213) × (headroom sheetU 0 (pos 55775763) ≡ pos 557758)
   pub network-traced : (nc sheetU 0 1 ≡ pos 12400000) × (panc sheetU 0 (pos 12400000) ≡ pos 248000)
   -- the first region and the last
-  pub first-region : eightAre 0 (11420014 ∷ 68981521 ∷ 10886946 ∷ 67489095 ∷ 12780546 ∷ 77414326 ∷ 12223106 ∷ 75779657 ∷ []) ≡ true
-  pub last-region : eightAre 13 (11287321 ∷ 68583575 ∷ 10756465 ∷ 67097782 ∷ 13046024 ∷ 77945243 ∷ 12484160 ∷ 76301726 ∷ []) ≡ true
+  pub first-region : eightAre sheetU 0 (11420014 ∷ 68981521 ∷ 10886946 ∷ 67489095 ∷ 12780546 ∷ 77414326 ∷ 12223106 ∷ 75779657 ∷ []) ≡ true
+  pub last-region : eightAre sheetU 13 (11287321 ∷ 68583575 ∷ 10756465 ∷ 67097782 ∷ 13046024 ∷ 77945243 ∷ 12484160 ∷ 76301726 ∷ []) ≡ true
   -- three tiers: over in region 9 and not in 4, most at the second step
   pub tiers-over : verdictOn (threeTiers 27000) ≡ over (cell 9 0) (400 ∷ 400 ∷ []) (pos 54991800000)
   pub tiers-within : verdictOn (threeTiers 26000) ≡ opens 2

@@ -20,7 +20,7 @@ use Rattle.calendar.proofs.Lengths.{days-most}
 use Rattle.sheet.specs.Sheet.{fieldCount, field, fieldsInRange, termsFit}
 use Rattle.sheet.specs.CommonFields.{commonFields}
 use Rattle.sheet.specs.Ranged.{Ranged}
-use Rattle.sheet.proofs.Bounds.{all-ranged, level-some, level-most}
+use Rattle.sheet.proofs.Bounds.{all-ranged, level-some, level-most, peak-most}
 use Rattle.benchmark.specs.Benchmark.{figureIndex, benchmark, figure, figures, ocsFit, ordered, benchmarksOf, setCheck}
 use Rattle.benchmark.specs.Signs.{Costed, NoneBelowZero}
 use Rattle.benchmark.specs.Lawful.{Lawful}
@@ -30,10 +30,10 @@ use Rattle.benchmark.proofs.Signs.{common-costed, none-below-zero}
 
 module _ (s : List ℕ) (p : Period) (e : setCheck s p ≡ Pass) where
   checks-passed :
-      (eqb (length s) 95 ≡ true) × (fieldsInRange s ≡ true) × (periodInRange p ≡ true) × (termsFit s ≡ true) × (ocsFit s ≡ true) × (ordered (figures s) ≡ true)
+      (eqb (length s) fieldCount ≡ true) × (fieldsInRange s ≡ true) × (periodInRange p ≡ true) × (termsFit s ≡ true) × (ocsFit s ≡ true) × (ordered (figures s) ≡ true)
   unfolding setCheck
   checks-passed =
-      let one = unless-passes (eqb (length s) 95) 1 _ e in
+      let one = unless-passes (eqb (length s) fieldCount) 1 _ e in
       let two = unless-passes (fieldsInRange s) 2 _ (one .1) in
       let three = unless-passes (periodInRange p) 3 _ (two .1) in
       let four = unless-passes (termsFit s) 4 _ (three .1) in
@@ -41,8 +41,8 @@ module _ (s : List ℕ) (p : Period) (e : setCheck s p ≡ Pass) where
       let five = unless-passes (ordered (figures s)) 5 _ (fourteen .1) in
       (one .0, two .0, three .0, four .0, fourteen .0, five .0)
 
-  pub passed-count : length s ≡ 95
-  passed-count = eqb-true (length s) 95 (checks-passed .0)
+  pub passed-count : length s ≡ fieldCount
+  passed-count = eqb-true (length s) fieldCount (checks-passed .0)
 
   pub passed-ranges : fieldsInRange s ≡ true
   passed-ranges = checks-passed .1
@@ -131,6 +131,7 @@ lawful s p e =
       nil-at-most-m = ordered-at (figures s) (passed-ordered s p e);
       level-some = pair-some (field s 93) (field s 94) (level-some s h 93 (omega arith) (omega arith) (omega arith)) (level-some s h 94 (omega arith) (omega arith) (omega arith));
       level-most = pair-most 20000 (field s 93) (field s 94) (level-most s h 93 (omega arith) (omega arith) (omega arith)) (level-most s h 94 (omega arith) (omega arith) (omega arith));
+      peak-most = peak-most s h;
       months-some = within p (passed-period s p e) .months-least;
       months-most = within p (passed-period s p e) .months-most;
       days-most = days-most p (passed-period s p e);

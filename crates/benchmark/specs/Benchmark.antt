@@ -14,7 +14,7 @@ use Rattle.refusal.specs.declared.Check.the-variants.{Pass}
 use Rattle.refusal.specs.Checks.{unless}
 use Rattle.calendar.specs.declared.Period.{Period}
 use Rattle.calendar.specs.Calendar.{periodInRange, periodDays}
-use Rattle.sheet.specs.Sheet.{fieldCount, field, smncc, fieldsInRange, roundSigned, dfTerm, cmTerm, pcTerm, ocTerm, paacTerm, termsFit}
+use Rattle.sheet.specs.Sheet.{fieldCount, field, smncc, peakShare, fieldsInRange, roundSigned, dfTerm, cmTerm, pcTerm, ocTerm, paacTerm, termsFit}
 use Rattle.benchmark.specs.declared.Benchmarks.{Benchmarks}
 
 -- "Four" means single-rate nil, single-rate m, Economy 7 nil, Economy 7 m
@@ -83,9 +83,9 @@ ordered charges = every 56 (λ j. leb (getD charges (2 * j) 0) (getD charges (2 
 -- what a sheet and its period come to
 unfoldable pub benchmarksOf : List ℕ → Period → Benchmarks
 benchmarksOf s p =
-    record { charges = figures s; levels = field s 93 ∷ field s 94 ∷ []; months = p .months; days = periodDays p }
+    record { charges = figures s; levels = field s 93 ∷ field s 94 ∷ []; peak = peakShare s; months = p .months; days = periodDays p }
 
--- SET's checks. "1: not 95 numbers. 2: a field outside its range. 3: a period outside its range. 4: an indexed term above
+-- SET's checks. "1: not 96 numbers" (M-103). "2: a field outside its range. 3: a period outside its range. 4: an indexed term above
 -- 100,000,000. 5: some benchmark at m below its benchmark at nil." M-102: "14, some OC below zero, in SET and TRIAL after 4 and before 5."
 unfoldable pub setCheck : List ℕ → Period → Check
 setCheck s p =
@@ -96,4 +96,4 @@ setCheck s p =
 
 -- nothing worked out, as in a book without a sheet
 abbrev pub noBenchmarks : Benchmarks
-noBenchmarks = record { charges = replicate 112 0; levels = replicate 2 0; months = 0; days = 0 }
+noBenchmarks = record { charges = replicate 112 0; levels = replicate 2 0; peak = 0; months = 0; days = 0 }

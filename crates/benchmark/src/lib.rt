@@ -14,10 +14,11 @@ ghost use Rattle.benchmark.specs.Common.{costsAt, sumFrom, commons};
 ghost use Rattle.benchmark.specs.Signs.{Costed};
 
 // What a sheet and its period come to: the 112 charges by region, arrangement, method and level; m of each arrangement;
-// t; and the days.
+// the peak share of Economy 7; t; and the days.
 pub struct Benchmarks {
     pub charges: [u32; 112],
     pub levels: [u32; 2],
+    pub peak: u32,
     pub months: u32,
     pub days: u32,
 }

@@ -7,6 +7,7 @@ use mathlib.Core.Option.{Option, none, some}
 use Prim.Native.Nat.{ℕ, zero, suc}
 use lib.ListN.{getD, set, replicate}
 use Rattle.calendar.specs.declared.Period.{Period}
+use Rattle.sheet.specs.Sheet.{fieldCount}
 use Rattle.benchmark.specs.declared.Benchmarks.{Benchmarks}
 use Rattle.benchmark.specs.Benchmark.{noBenchmarks}
 use Rattle.tariff.specs.declared.Tariff.{Tariff}
@@ -43,7 +44,7 @@ noPeriod = record { year = 0; month = 0; months = 0 }
 
 abbrev pub fresh : Book
 fresh =
-    record { loaded = false; fields = replicate 95 0; period = noPeriod; benchmarks = noBenchmarks; places = replicate 32 empty }
+    record { loaded = false; fields = replicate fieldCount 0; period = noPeriod; benchmarks = noBenchmarks; places = replicate 32 empty }
 
 -- code k is place k - 1; past the places stands what a read there gives
 abbrev pub beyond : Place

@@ -13,6 +13,7 @@ ghost use Rattle.book.specs.Book.{empty, fresh, placeWith, tariffIn, wit
 use benchmark::Benchmarks;
 use calendar::Period;
 use refusal::Check;
+use sheet::FIELD_COUNT;
 use tariff::Tariff;
 
 // A place holds nothing, a draft or an open tariff.
@@ -37,7 +38,7 @@ pub struct Place {
 // 32 places; a sheet with its period, or none; and what they come to.
 pub struct Book {
     pub loaded: bool,
-    pub fields: [u32; 95],
+    pub fields: [u32; FIELD_COUNT],
     pub period: Period,
     pub benchmarks: Benchmarks,
     pub places: [Place; 32],
@@ -130,7 +131,7 @@ pub fn fresh_book() -> Book
 {
     Book {
         loaded: false,
-        fields: [0; 95],
+        fields: [0; FIELD_COUNT],
         period: Period {
             year: 0,
             month: 0,
@@ -139,6 +140,7 @@ pub fn fresh_book() -> Book
         benchmarks: Benchmarks {
             charges: [0; 112],
             levels: [0; 2],
+            peak: 0,
             months: 0,
             days: 0,
         },

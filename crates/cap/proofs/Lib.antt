@@ -4,3 +4,4 @@ pub mod Comparing
 pub mod Scanned
 pub mod Sizes
 pub mod Shares
+pub mod Splits

@@ -3,7 +3,8 @@
 use Prim.Native.Nat.{ℕ, _+_, _*_, _-_, _≤_}
 use native.Mathlib.Nat.{mul-le-mul}
 use native.Mathlib.Omega.{arith}
-use Rattle.tariff.specs.Tariff.{wholeShare, standingMost}
+use Rattle.shares.specs.Shares.{wholeShare}
+use Rattle.tariff.specs.Tariff.{standingMost}
 use Rattle.charge.specs.Most.{monthsMost, daysMost}
 use Rattle.cap.specs.declared.CellNumbers.{CellNumbers}
 use Rattle.cap.specs.Corners.{benchmarkMost, levelMost, totalMost, room, monthChargedMost, Fits}
@@ -23,7 +24,7 @@ module _ (e : CellNumbers) (h : Fits e) where
   pub scale-most : 12 * e .m ≤ 12 * levelMost
   scale-most = omega (arith, h .m-most)
 
-  -- 1,200 × m × standing × days
+  -- standing × days, times the scale
   pub daily : e .standing * e .days ≤ standingMost * daysMost
   daily = mul-le-mul (h .standing-most) (h .days-most)
 

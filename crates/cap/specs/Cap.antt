@@ -9,7 +9,7 @@ use lib.Signed.{_<ℤ_}
 use Rattle.laws.specs.Notions.{sum}
 use Rattle.laws.specs.Greatest.{firstGreatest}
 use Rattle.tariff.specs.declared.Tariff.{Tariff}
-use Rattle.tariff.specs.Tariff.{wholeShare}
+use Rattle.shares.specs.Shares.{wholeShare}
 use Rattle.charge.specs.Charge.{monthMost, monthCharge, charge}
 use Rattle.cap.specs.declared.CellNumbers.{CellNumbers}
 
@@ -18,15 +18,15 @@ use Rattle.cap.specs.declared.CellNumbers.{CellNumbers}
 unfoldable pub maximum : CellNumbers → ℕ → ℕ
 maximum e total = e .lower * e .months * e .m + 12 * (e .upper - e .lower) * total
 
--- the scale of an excess is 1,200 × m: 100 for the percentages, 12 × m for the maximum.
--- 1,200 × m times the charge, and times the maximum
+-- M-103: "Every excess is now over 12,000 × m": the whole of the shares for the charge, 12 × m for the maximum.
+-- the charge and the maximum, each times this scale
 unfoldable pub charged : CellNumbers → Tariff → List ℕ → ℕ
 charged e x months = 12 * e .m * charge (e .standing) (e .days) (e .peak) x months
 
 unfoldable pub capped : CellNumbers → List ℕ → ℕ
 capped e months = wholeShare * maximum e (sum months)
 
--- "The excess is 1,200 × m × (charge - maximum), a whole number."
+-- "The excess is 1,200 × m × (charge - maximum), a whole number", with M-103's scale for 1,200 × m
 unfoldable pub excess : CellNumbers → Tariff → List ℕ → ℤ
 excess e x months = pos (charged e x months) -ℤ pos (capped e months)
 
@@ -38,7 +38,7 @@ Months t months = (length months ≡ t) × ((i : ℕ) → getD months i 0 ≤ mo
 abbrev pub Exceeds : CellNumbers → Tariff → Type 0
 Exceeds e x = (months : List ℕ) × Months (e .months) months × (pos 0 <ℤ excess e x months)
 
--- "A month's share is 1,200 × m × the charge for its kWh, less 1,200 × (M - N) × its kWh."
+-- "A month's share is 1,200 × m × the charge for its kWh, less 1,200 × (M - N) × its kWh", at the same scale
 unfoldable pub share : CellNumbers → Tariff → ℕ → ℤ
 share e x kwh = pos (12 * e .m * monthCharge (e .peak) x kwh) -ℤ pos (12 * wholeShare * (e .upper - e .lower) * kwh)
 

@@ -7,7 +7,8 @@ use lib.IntN.{pos}
 use lib.ListN.{getD, take}
 use Rattle.laws.proofs.Pieces.{Pieces}
 use Rattle.tariff.specs.declared.Tariff.{Tariff}
-use Rattle.tariff.specs.Tariff.{wholeShare, standingMost}
+use Rattle.shares.specs.Shares.{wholeShare}
+use Rattle.tariff.specs.Tariff.{standingMost}
 use Rattle.charge.specs.declared.Tiers.{Tiers}
 use Rattle.charge.specs.Charge.{monthMost, monthCharge}
 use Rattle.charge.specs.Most.{monthsMost, daysMost, monthChargeMost}
@@ -19,7 +20,7 @@ use Rattle.cap.specs.declared.WorstCase.{WorstCase}
 use Rattle.cap.specs.Cap.{charged, capped, excess, worstMonth, worstMonths}
 
 -- the most of a benchmark and of m, and of what follows from them: a total, the maximum times 12 × m, what the cap allows for a kWh
--- and for a month's kWh, and a month's charge, each of these three times 1,200 × m
+-- and for a month's kWh, and a month's charge, each of these three times the scale
 abbrev pub benchmarkMost : ℕ
 benchmarkMost = 2400000000
 
@@ -74,7 +75,7 @@ pub record Raised (u : ℕ → ℕ) (slope : ℕ) (w : Share) : Type 0 where
   pub within : w .month ≤ monthMost
   pub is : w .raised + slope * w .month ≡ u (w .month) + room
 
--- k has the corners of a tariff, each with a month's charge there times 1,200 × m
+-- k has the corners of a tariff, each with a month's charge there times the scale
 pub record Cornered (peak : ℕ) (x : Tariff) (m : ℕ) (k : Corners) : Type 0 where
   pub bounded : Bounded k
   pub rises : List ℕ

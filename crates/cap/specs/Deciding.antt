@@ -14,7 +14,7 @@ use Rattle.laws.proofs.Sums.{total-same, total-scaled, total-line}
 use Rattle.laws.proofs.Differences.{difference-above, above-difference}
 use Rattle.laws.proofs.Greatest.{Best, first-best, first-greatest, total-best}
 use Rattle.tariff.specs.declared.Tariff.{Tariff}
-use Rattle.tariff.specs.Tariff.{wholeShare}
+use Rattle.shares.specs.Shares.{wholeShare}
 use Rattle.charge.specs.Charge.{monthMost, monthCharge}
 use Rattle.charge.proofs.Months.{charge-monthly}
 use Rattle.cap.specs.declared.CellNumbers.{CellNumbers}

@@ -11,7 +11,8 @@ ghost use lib.ListN.{length, getD, drop, replicate};
 ghost use Rattle.laws.specs.Notions.{sum};
 ghost use Rattle.laws.proofs.Greatest.{better};
 ghost use Rattle.laws.proofs.Pieces.{scan};
-ghost use Rattle.tariff.specs.Tariff.{wholeShare, validTariff};
+ghost use Rattle.shares.specs.Shares.{wholeShare};
+ghost use Rattle.tariff.specs.Tariff.{validTariff};
 ghost use Rattle.charge.specs.Charge.{monthMost};
 ghost use Rattle.charge.specs.Most.{monthsMost, scaledRateMost};
 ghost use Rattle.charge.specs.Tiers.{TiersFit};
@@ -21,10 +22,11 @@ ghost use Rattle.cap.specs.Corners.{levelMost, totalMost, maximumMost, s
 use charge::Kwh;
 use charge::Mills;
 use charge::Tiers;
+use shares::WHOLE;
 use tariff::Tariff;
-use tariff::WHOLE;
 
-// The most of a month's consumption and of a benchmark; and what the cap allows at most for a month's kWh, times 1,200 × m.
+// The most of a month's consumption and of a benchmark; the scale of an excess, which is this times m; and what the cap allows at most
+// for a month's kWh, so scaled.
 const MONTH_MOST: u64 = 10_000;
 
 const BENCHMARK_MOST: u64 = 2_400_000_000;
@@ -45,14 +47,14 @@ pub struct CellNumbers {
     pub peak: u32,
 }
 
-// 1,200 × m times the charge, and times the maximum.
+// The charge and the maximum, each times the scale.
 pub struct Sides {
     pub charged: u64,
     pub capped: u64,
 }
 
 // The consumptions, beside 0, at which a month's share may be greatest: each step, and the end in every place that is left; and a
-// month's charge at each, times 1,200 × m.
+// month's charge at each, times the scale.
 pub struct Corners {
     pub at: [u64; 4],
     pub charged: [u64; 4],
@@ -136,7 +138,7 @@ fn corner(t: Tiers, end: u64, i: usize) -> u64
     if i + 1 < t.n { wide(steps[i]) } else { end }
 }
 
-// A month's charge at a corner, times 1,200 × m, from the charge at the corner before it.
+// A month's charge at a corner, times the scale, from the charge at the corner before it.
 fn charged_up_to(before: u64, m: u64, rate: u64, from: u64, to: u64) -> u64
     requires { ⌜ (before ≤ monthChargedMost) × (m ≤ levelMost) × (rate ≤ scaledRateMost) × (from ≤ to) × (to ≤ monthMost) ⌝ }
     ensures { λ r. ⌜ r ≡ before + 12 * m * (rate * (to - from)) ⌝ }
@@ -197,7 +199,7 @@ fn worst_corner(k: Corners, slope: u64) -> Share
     worse(third, at[3], charged[3], slope)
 }
 
-// 1,200 × m times the charge of t months alike, from a month's charge times 1,200 × m.
+// The charge of t months alike, times the scale, from a month's charge so scaled.
 fn charged_by(e: CellNumbers, month: u64) -> u64
     requires { ⌜ Fits e × (month ≤ monthChargedMost + room) ⌝ }
     ensures { λ r. ⌜ r ≡ 12 * e .m * (wholeShare * (e .standing * e .days)) + e .months * month ⌝ }
@@ -205,7 +207,7 @@ fn charged_by(e: CellNumbers, month: u64) -> u64
     12 * e.m * (WHOLE * (wide(e.standing) * wide(e.days))) + e.months * month
 }
 
-// 1,200 × m times the maximum of t months alike, from what the cap allows for a month's kWh.
+// The maximum of t months alike, times the scale, from what the cap allows for a month's kWh.
 fn capped_by(e: CellNumbers, month: u64) -> u64
     requires { ⌜ Fits e × (month ≤ room) ⌝ }
     ensures { λ r. ⌜ r ≡ wholeShare * (e .lower * e .months * e .m) + e .months * month ⌝ }

@@ -1,3 +1,3 @@
-pub mod Weighted
+pub mod Registers
 pub mod TariffTiers
 pub mod Months

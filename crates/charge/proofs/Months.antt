@@ -9,8 +9,8 @@ use lib.Dec.{eqb}
 use Rattle.laws.specs.Notions.{sum, total}
 use Rattle.laws.proofs.Sums.{total-scaled, total-line}
 use Rattle.tariff.specs.declared.Tariff.{Tariff}
-use Rattle.tariff.specs.Tariff.{wholeShare}
-use Rattle.charge.specs.Charge.{ratesInUse, tierSteps, shares, tierCharge, weighted, monthCharge, charge}
+use Rattle.shares.specs.Shares.{wholeShare, weighted}
+use Rattle.charge.specs.Charge.{ratesInUse, tierSteps, shares, tierCharge, monthCharge, charge}
 
 -- the charge is the standing charge and the sum of the months' charges
 pub charge-monthly : (standing days peak : ℕ) (x : Tariff) (months : List ℕ)

@@ -7,7 +7,7 @@ use lib.Dec.{eqb}
 use lib.ListN.{take}
 use Rattle.laws.specs.Notions.{sum, total}
 use Rattle.tariff.specs.declared.Tariff.{Tariff}
-use Rattle.tariff.specs.Tariff.{wholeShare}
+use Rattle.shares.specs.Shares.{wholeShare, weighted}
 
 -- "A month's consumption is 0 to 10,000."
 abbrev pub monthMost : ℕ
@@ -32,18 +32,6 @@ unfoldable pub tierCharge : ℕ → List ℕ → List ℕ → ℕ → ℕ
 tierCharge from [] steps kwh = 0
 tierCharge from (r ∷ rs) [] kwh = r * (kwh - from)
 tierCharge from (r ∷ rs) (s ∷ ss) kwh = r * (min kwh s - from) + tierCharge s rs ss kwh
-
--- the percentage-weighted rate, times the whole of the shares
-unfoldable pub weighted : List ℕ → List ℕ → ℕ
-weighted [] shares = 0
-weighted (r ∷ rs) [] = 0
-weighted (r ∷ rs) (p ∷ ps) = r * p + weighted rs ps
-
--- what the weighted rate stands for (proofs/Weighted.antt, `charge-registers`): each register's share of the kWh at its rate
-unfoldable pub registers : List ℕ → List ℕ → ℕ → ℕ
-registers [] shares kwh = 0
-registers (r ∷ rs) [] kwh = 0
-registers (r ∷ rs) (p ∷ ps) kwh = r * (p * kwh) + registers rs ps kwh
 
 -- A charge with shares in it is a fraction of a mill, so charges are kept times the whole of the shares.
 -- a month's charge for its kWh, so scaled

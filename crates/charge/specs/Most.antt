@@ -1,7 +1,8 @@
 -- The most of the numbers that the code adds up: products of the limits of the papers.
 -- Assumes nothing.
 use Prim.Native.Nat.{ℕ, _+_, _*_}
-use Rattle.tariff.specs.Tariff.{wholeShare, rateMost, standingMost}
+use Rattle.shares.specs.Shares.{wholeShare}
+use Rattle.tariff.specs.Tariff.{rateMost, standingMost}
 use Rattle.charge.specs.Charge.{monthMost}
 
 -- the months of a period, and its days

@@ -7,9 +7,9 @@ use Prim.Native.Nat.{ℕ, _-_, _*_, _≤_, _<_}
 use lib.Dec.{eqb}
 use lib.ListN.{length, getD, take}
 use Rattle.tariff.specs.declared.Tariff.{Tariff}
-use Rattle.tariff.specs.Tariff.{wholeShare}
+use Rattle.shares.specs.Shares.{wholeShare, weighted}
 use Rattle.charge.specs.declared.Tiers.{Tiers}
-use Rattle.charge.specs.Charge.{ratesInUse, shares, tierCharge, weighted}
+use Rattle.charge.specs.Charge.{ratesInUse, shares, tierCharge}
 use Rattle.charge.specs.Most.{scaledRateMost}
 
 -- rates times the whole of the shares

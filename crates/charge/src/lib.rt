@@ -7,13 +7,14 @@ ghost use mathlib.Core.Bool.{true};
 ghost use Prim.Native.Nat.{ℕ, _+_, _-_, _*_, _≤_, _<_, min};
 ghost use lib.ListN.{length, getD, take};
 ghost use Rattle.laws.specs.Notions.{sum};
-ghost use Rattle.tariff.specs.Tariff.{wholeShare, standingMost, ratesWithin, validTariff};
-ghost use Rattle.charge.specs.Charge.{monthMost, weighted, charge};
+ghost use Rattle.shares.specs.Shares.{wholeShare, weighted};
+ghost use Rattle.tariff.specs.Tariff.{standingMost, ratesWithin, validTariff};
+ghost use Rattle.charge.specs.Charge.{monthMost, charge};
 ghost use Rattle.charge.specs.Most.{monthsMost, daysMost, scaledRateMost, monthChargeMost, chargeMost};
 ghost use Rattle.charge.specs.Tiers.{tiersOf, byTiers, TiersFit};
+use shares::WHOLE;
+use shares::WHOLE_SHARE;
 use tariff::Tariff;
-use tariff::WHOLE;
-use tariff::WHOLE_SHARE;
 
 // A charge is counted in mills and a consumption in kWh.
 pub struct Mills(pub u64);

@@ -13,41 +13,41 @@ use Rattle.refusal.specs.Checks.{unless}
 use Rattle.refusal.proofs.Checks.{unless-refuses}
 use Rattle.calendar.specs.declared.Period.{Period}
 use Rattle.calendar.specs.Calendar.{periodInRange}
-use Rattle.sheet.specs.Sheet.{fieldsInRange, termsFit}
+use Rattle.sheet.specs.Sheet.{fieldCount, fieldsInRange, termsFit}
 use Rattle.figures.specs.declared.Worked.{Worked}
 use Rattle.benchmark.specs.Benchmark.{figures, ocsFit, ordered, benchmarksOf, setCheck, noBenchmarks}
 use Rattle.figures.specs.Working.{workedIf}
 
 module _ (s : List ℕ) (p : Period) (n : ℕ) where
-  pub first-refuses : unless (eqb (length s) 95) 1 Pass ≡ Refuse n → setCheck s p ≡ Refuse n
+  pub first-refuses : unless (eqb (length s) fieldCount) 1 Pass ≡ Refuse n → setCheck s p ≡ Refuse n
   unfolding setCheck
-  first-refuses e = unless-refuses (eqb (length s) 95) 1 n _ e
+  first-refuses e = unless-refuses (eqb (length s) fieldCount) 1 n _ e
 
-  pub second-refuses : length s ≡ 95 → unless (fieldsInRange s) 2 Pass ≡ Refuse n → setCheck s p ≡ Refuse n
+  pub second-refuses : length s ≡ fieldCount → unless (fieldsInRange s) 2 Pass ≡ Refuse n → setCheck s p ≡ Refuse n
   unfolding setCheck
-  second-refuses h e = rw (eq-eqb (length s) 95 h) (unless-refuses (fieldsInRange s) 2 n _ e)
+  second-refuses h e = rw (eq-eqb (length s) fieldCount h) (unless-refuses (fieldsInRange s) 2 n _ e)
 
-  pub third-refuses : length s ≡ 95 → fieldsInRange s ≡ true → unless (periodInRange p) 3 Pass ≡ Refuse n → setCheck s p ≡ Refuse n
+  pub third-refuses : length s ≡ fieldCount → fieldsInRange s ≡ true → unless (periodInRange p) 3 Pass ≡ Refuse n → setCheck s p ≡ Refuse n
   unfolding setCheck
-  third-refuses h r e = rw (eq-eqb (length s) 95 h, r) (unless-refuses (periodInRange p) 3 n _ e)
+  third-refuses h r e = rw (eq-eqb (length s) fieldCount h, r) (unless-refuses (periodInRange p) 3 n _ e)
 
   pub fourth-refuses :
-      length s ≡ 95 → fieldsInRange s ≡ true → periodInRange p ≡ true → unless (termsFit s) 4 Pass ≡ Refuse n → setCheck s p ≡ Refuse n
+      length s ≡ fieldCount → fieldsInRange s ≡ true → periodInRange p ≡ true → unless (termsFit s) 4 Pass ≡ Refuse n → setCheck s p ≡ Refuse n
   unfolding setCheck
-  fourth-refuses h r q e = rw (eq-eqb (length s) 95 h, r, q) (unless-refuses (termsFit s) 4 n _ e)
+  fourth-refuses h r q e = rw (eq-eqb (length s) fieldCount h, r, q) (unless-refuses (termsFit s) 4 n _ e)
 
   pub fourteenth-refuses :
-      length s ≡ 95 → fieldsInRange s ≡ true → periodInRange p ≡ true → termsFit s ≡ true → unless (ocsFit s) 14 Pass ≡ Refuse n → setCheck s p ≡ Refuse n
+      length s ≡ fieldCount → fieldsInRange s ≡ true → periodInRange p ≡ true → termsFit s ≡ true → unless (ocsFit s) 14 Pass ≡ Refuse n → setCheck s p ≡ Refuse n
   unfolding setCheck
-  fourteenth-refuses h r q f e = rw (eq-eqb (length s) 95 h, r, q, f) (unless-refuses (ocsFit s) 14 n _ e)
+  fourteenth-refuses h r q f e = rw (eq-eqb (length s) fieldCount h, r, q, f) (unless-refuses (ocsFit s) 14 n _ e)
 
 module _ (s : List ℕ) (p : Period) where
   -- where the others pass, the fifth is the answer
   pub fifth-answers :
-      length s ≡ 95 → fieldsInRange s ≡ true → periodInRange p ≡ true → termsFit s ≡ true → ocsFit s ≡ true
+      length s ≡ fieldCount → fieldsInRange s ≡ true → periodInRange p ≡ true → termsFit s ≡ true → ocsFit s ≡ true
       → setCheck s p ≡ unless (ordered (figures s)) 5 Pass
   unfolding setCheck
-  fifth-answers h r q f o = rw (eq-eqb (length s) 95 h, r, q, f, o)
+  fifth-answers h r q f o = rw (eq-eqb (length s) fieldCount h, r, q, f, o)
 
   -- what `work_out` promises, where SET refuses and where it passes
   abbrev pub Answered : Worked → Type 0

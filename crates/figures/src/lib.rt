@@ -19,6 +19,7 @@ ghost use Rattle.figures.specs.Working.{workedIf};
 use benchmark::Benchmarks;
 use calendar::Period;
 use refusal::Check;
+use sheet::FIELD_COUNT;
 
 // SET's answer on a sheet and a period, and what they come to where it passes.
 pub struct Worked {
@@ -79,16 +80,16 @@ fn refuse_unless(holds: bool, n: u32) -> Check
     if holds { Check::Pass } else { Check::Refuse(n) }
 }
 
-// 1: not 95 numbers.
+// 1: not 96 numbers.
 fn count_check(s: &[u32]) -> Check
     ensures { λ r. ⌜ r ≡ unless (eqb (length (now (s .entry))) fieldCount) 1 Pass ⌝ }
 {
-    refuse_unless(s.len() == 95, 1)
+    refuse_unless(s.len() == FIELD_COUNT, 1)
 }
 
 // 2: a field outside its range.
 fn fields_check(s: &[u32]) -> Check
-    requires { ⌜ length (now s) ≡ 95 ⌝ }
+    requires { ⌜ length (now s) ≡ fieldCount ⌝ }
     ensures { λ r. ⌜ r ≡ unless (fieldsInRange (now (s .entry))) 2 Pass ⌝ }
 {
     refuse_unless(sheet::fields_in_range(s), 2)
@@ -133,6 +134,7 @@ fn refused(check: Check) -> Worked
         benchmarks: Benchmarks {
             charges: [0; 112],
             levels: [0; 2],
+            peak: 0,
             months: 0,
             days: 0,
         },
@@ -171,11 +173,13 @@ pub fn work_out(s: &[u32], p: Period) -> Worked
     };
     let single = s[93];
     let economy = s[94];
+    let peak = s[95];
     Worked {
         check: Check::Pass,
         benchmarks: Benchmarks {
             charges,
             levels: [single, economy],
+            peak,
             months: p.months,
             days: calendar::days(p),
         },

@@ -25,7 +25,7 @@ pub record Fraction : Type 0 where
   pub number : ℕ
   pub denominator : ℕ
 
--- "100 × 12 × m times the charge and times the maximum"
+-- M-103: "QUOTE scales by 1,000 × 12 × m", the charge and the maximum
 pub record Quotation : Type 0 where
   pub charge : ℕ
   pub maximum : ℕ
@@ -73,7 +73,7 @@ cellAllowed x region method = ltb region 14 && ltb method 2 && offered x (cell r
 unfoldable pub monthsAllowed : ℕ → List ℕ → Bool
 monthsAllowed t months = eqb (length months) t && every (length months) (λ i. leb (getD months i 0) monthMost)
 
--- "Gives 100 × 12 × m times the charge and times the maximum."
+-- Gives "times the charge and times the maximum", each so scaled.
 abbrev pub quotationIn : Sheet → Tariff → ℕ → ℕ → List ℕ → Quotation
 quotationIn s x region method months =
     let e = tariffNumbers (figuresOf s) x (cell region method) in record { charge = charged e x months; maximum = capped e months }

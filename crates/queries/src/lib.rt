@@ -15,7 +15,7 @@ use refusal::Check;
 use tariff::Tariff;
 
 // A refusal, with its number; or what each of the calls that tell gives. `Maximum` is its number over its denominator, 12 × m; both figures
-// of `Quote` are scaled by 1,200 × m; `Falling` is TRIAL's set of codes, bit code - 1.
+// of `Quote` are scaled by 1,000 × 12 × m; `Falling` is TRIAL's set of codes, bit code - 1.
 pub enum Told {
     Refused(u32),
     Benchmark(u64),
@@ -140,7 +140,7 @@ fn quote_check(x: Tariff, region: u32, method: u32, t: u32, months: &[u32]) -> C
     Check::Refuse(13)
 }
 
-// QUOTE (code, region, method, months). 6, 9, 10, 13. 1,200 × m times the charge and times the maximum.
+// QUOTE (code, region, method, months). 6, 9, 10, 13. 1,000 × 12 × m times the charge and times the maximum.
 pub fn quote(b: Book, code: u32, region: u32, method: u32, months: &[u32]) -> Told
     requires { ⌜ Reachable b ⌝ }
     ensures { λ r. ⌜ tellingOf r ≡ quoteOf b code region method (now (months .entry)) ⌝ }

@@ -1,3 +1,5 @@
 pub mod Scanning
+pub mod Figures
 pub mod Table
 pub mod Savings
+pub mod Splits

@@ -2,9 +2,12 @@
 -- Assumes nothing.
 use mathlib.Core.Path.{_≡_, refl}
 use mathlib.Core.List.{[], _∷_}
+use Prim.Native.Nat.{_≤_}
+use native.Mathlib.Omega.{arith}
 use lib.IntN.{pos}
 use Rattle.laws.proofs.Pieces.{scan}
 use Rattle.laws.specs.Notions.{every, sum, total, tabulate, tabulateFrom, bit}
+use Rattle.shares.specs.Shares.{wholeShare}
 use Rattle.calendar.specs.Calendar.{periodDays, periodInRange, monthBegins, lengthAt, monthLength, leapYear}
 use Rattle.sheet.specs.Sheet.{signed, valueOf, rangeOf, fieldInRange, fieldsInRange, round, roundSigned, indexed, fourFit, paacFits, termsFit}
 use Rattle.benchmark.specs.declared.Benchmarks.{Benchmarks}
@@ -28,6 +31,7 @@ known =
     record {
       charges = times 14 (8387850 ∷ 65152890 ∷ 7807500 ∷ 63459500 ∷ 8387850 ∷ 71952210 ∷ 7807500 ∷ 70125500 ∷ []);
       levels = 3000 ∷ 4000 ∷ [];
+      peak = 580;
       months = 3;
       days = 92;
     }
@@ -36,7 +40,11 @@ is-known : benchmarksOf saving periodS ≡ known
 unfolding benchmarksOf figures figure tabulate tabulateFrom benchmark wc pc oc nc paenc headroom panc valueOf signed indexed round roundSigned sheetS times periodDays monthBegins lengthAt monthLength leapYear known
 is-known = refl
 
-falling : scannedVerdict known (tariffOf (flat 23960 18000)) ≡ over (cell 0 0) (0 ∷ 0 ∷ 0 ∷ []) (pos 386487000000)
+split : known .peak ≤ wholeShare
+unfolding known
+split = omega arith
+
+falling : scannedVerdict known (tariffOf (flat 23960 18000)) ≡ over (cell 0 0) (0 ∷ 0 ∷ 0 ∷ []) (pos 3864870000000)
 unfolding scannedVerdict scannedBelow offered bit cellNumbers arrangement scannedMonths cornersTo tiersOf scan tierCharge monthCharge charge maximum charged capped excess sum total known times
 falling = refl
 
@@ -50,7 +58,7 @@ savings =
       ocs = (refl, refl, refl, refl);
       sums = refl;
       benchmarks = refl;
-      falls = by-scan (benchmarksOf saving periodS) known is-known (flat 23960 18000) _ refl falling;
+      falls = by-scan (benchmarksOf saving periodS) known is-known split (flat 23960 18000) _ refl falling;
       nought = (refl, refl);
       nought-accepted = refl;
       nought-benchmarks = refl;

@@ -1,3 +1,4 @@
 pub mod SheetS
 pub mod Starred
 pub mod Savings
+pub mod Splits

@@ -43,7 +43,7 @@ pub record Savings : Type 0 where
   pub sums : commons (commonFields saving) ≡ 6347850 ∷ 52912890 ∷ 5807500 ∷ 51459500 ∷ 6347850 ∷ 59712210 ∷ 5807500 ∷ 58125500 ∷ []
   pub benchmarks : alike saving (8387850 ∷ 65152890 ∷ 7807500 ∷ 63459500 ∷ 8387850 ∷ 71952210 ∷ 7807500 ∷ 70125500 ∷ []) ≡ true
   -- the tariff that sheet S has just within the cap is over it, by 107,357.5 mills with no consumption
-  pub falls : verdict (benchmarksOf saving periodS) (tariffOf (flat 23960 18000)) ≡ over (cell 0 0) (0 ∷ 0 ∷ 0 ∷ []) (pos 386487000000)
+  pub falls : verdict (benchmarksOf saving periodS) (tariffOf (flat 23960 18000)) ≡ over (cell 0 0) (0 ∷ 0 ∷ 0 ∷ []) (pos 3864870000000)
   -- OC is exactly 0 at nil: accepted; one mill lower: 14
   pub nought : (oc wholeSaving 0 ≡ pos 0) × (oc wholeSaving 1 ≡ pos 4200000)
   pub nought-accepted : setCheck wholeSaving periodS ≡ Pass

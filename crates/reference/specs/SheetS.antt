@@ -1,7 +1,8 @@
--- Sheet S of document 01, its period and the tariffs of the starred verdicts, as the numbers that a caller hands in.
+-- Sheet S of document 01 with the split of 28AD.31, its period and the tariffs of the starred verdicts, as the numbers that a caller hands in.
 -- Assumes nothing.
 use mathlib.Core.List.{List, [], _∷_, _++_}
 use Prim.Native.Nat.{ℕ, zero, suc}
+use lib.ListN.{set}
 use Rattle.calendar.specs.declared.Period.{Period}
 
 -- a list n times over
@@ -9,7 +10,7 @@ unfoldable pub times : ℕ → List ℕ → List ℕ
 times zero xs = []
 times (suc n) xs = xs ++ times n xs
 
--- DF0, CM0, PC0, OC0; HAP, PAP, PAAC; initial and current DFI, CMI, CPIH and PI; SMNCC; NC of each region; m
+-- DF0, CM0, PC0, OC0; HAP, PAP, PAAC; initial and current DFI, CMI, CPIH and PI; SMNCC; NC of each region; m; and M-103's peak share, 580
 unfoldable pub sheetS : List ℕ
 sheetS =
     (0 ∷ 30000000 ∷ 0 ∷ 36000000 ∷ [])
@@ -22,6 +23,11 @@ sheetS =
     ++ (500000 ∷ [])
     ++ times 14 (2000000 ∷ 12000000 ∷ 2000000 ∷ 12000000 ∷ [])
     ++ (3000 ∷ 4000 ∷ [])
+    ++ (580 ∷ [])
+
+-- the same with another peak share
+abbrev pub withSplit : ℕ → List ℕ
+withSplit tenths = set sheetS 95 tenths
 
 -- October 2023, t 3
 abbrev pub periodS : Period
@@ -34,7 +40,7 @@ offeredEverywhere kind n standing rates steps = kind ∷ n ∷ standing ∷ 1638
 abbrev pub noSteps : List ℕ
 noSteps = 0 ∷ 0 ∷ 0 ∷ 0 ∷ []
 
--- one rate; two rates with one step; Economy 7
+-- one rate; two rates with one step; Economy 7; two registers with their shares
 abbrev pub flat : ℕ → ℕ → List ℕ
 flat standing rate = offeredEverywhere 1 1 standing (rate ∷ 0 ∷ 0 ∷ 0 ∷ []) noSteps
 
@@ -43,3 +49,6 @@ tiered standing rate step next = offeredEverywhere 1 2 standing (rate ∷ next �
 
 abbrev pub economySeven : ℕ → ℕ → ℕ → List ℕ
 economySeven standing peak offPeak = offeredEverywhere 2 2 standing (peak ∷ offPeak ∷ 0 ∷ 0 ∷ []) noSteps
+
+abbrev pub twoRegisters : ℕ → ℕ → ℕ → ℕ → ℕ → List ℕ
+twoRegisters standing rate share next rest = offeredEverywhere 3 2 standing (rate ∷ next ∷ 0 ∷ 0 ∷ []) (share ∷ rest ∷ 0 ∷ 0 ∷ [])

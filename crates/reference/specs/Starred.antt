@@ -1,9 +1,10 @@
--- The starred verdicts of document 01's reference sheet, as one table about the definitions.
+-- The starred verdicts of document 01's reference sheet, as one table about the definitions. M-103: "With field 95 at 580 every verdict of
+-- the reference sheet stays, its excess ten times as large."
 -- Assumes nothing.
 use mathlib.Core.Path.{_≡_}
 use mathlib.Core.Bool.{Bool, true, false}
 use mathlib.Core.List.{List, [], _∷_}
-use Prim.Native.Nat.{ℕ, _/_, _%_}
+use Prim.Native.Nat.{ℕ, _*_, _/_, _%_}
 use lib.Dec.{eqb}
 use lib.IntN.{ℤ, pos, negsuc, _-ℤ_}
 use lib.ListN.{getD}
@@ -34,6 +35,10 @@ verdictOn x = verdict benchmarksS (tariffOf x)
 abbrev pub excessOf : List ℕ → List ℕ → ℤ
 excessOf x months = excess (tariffNumbers benchmarksS (tariffOf x) firstOther) (tariffOf x) months
 
+-- ten times an excess of document 01
+abbrev pub tenfold : ℕ → ℤ
+tenfold excess = pos (10 * excess)
+
 -- whether a signed number is the whole number n
 abbrev pub isWhole : ℤ → ℕ → Bool
 isWhole (pos m) n = eqb m n
@@ -61,16 +66,16 @@ pub record Starred : Type 0 where
   -- standing charge 23,000, 23,960 and 23,961 with one rate of 18,000
   pub within : verdictOn (flat 23000 18000) ≡ opens 28
   pub just-within : verdictOn (flat 23960 18000) ≡ opens 28
-  pub just-over : verdictOn (flat 23961 18000) ≡ over firstOther (0 ∷ 0 ∷ 0 ∷ []) (pos 133200000)
+  pub just-over : verdictOn (flat 23961 18000) ≡ over firstOther (0 ∷ 0 ∷ 0 ∷ []) (tenfold 133200000)
   -- 20,000 to 100 kWh, then 15,000: over with 100 kWh in each month, by 70,425 mills, and below the cap with the same 300 kWh in one
-  -- month, by 929,575 mills (each times 1,200 × m, which is 3,600,000)
-  pub tiers-over : verdictOn (tiered 20000 20000 100 15000) ≡ over firstOther (100 ∷ 100 ∷ 100 ∷ []) (pos 253530000000)
-  pub one-month-below : excessOf (tiered 20000 20000 100 15000) (300 ∷ 0 ∷ 0 ∷ []) ≡ pos 0 -ℤ pos 3346470000000
+  -- month, by 929,575 mills (each times 12,000 × m, which is 36,000,000)
+  pub tiers-over : verdictOn (tiered 20000 20000 100 15000) ≡ over firstOther (100 ∷ 100 ∷ 100 ∷ []) (tenfold 253530000000)
+  pub one-month-below : excessOf (tiered 20000 20000 100 15000) (300 ∷ 0 ∷ 0 ∷ []) ≡ pos 0 -ℤ tenfold 3346470000000
   -- 165,509 to 5 kWh, then 0: exactly at the cap with 5 kWh in each month, and one mill more is over
   pub at-the-cap : verdictOn (tiered 0 165509 5 0) ≡ opens 28
   pub excess-nought : excessOf (tiered 0 165509 5 0) (5 ∷ 5 ∷ 5 ∷ []) ≡ pos 0
-  pub a-mill-over : verdictOn (tiered 0 165510 5 0) ≡ over firstOther (5 ∷ 5 ∷ 5 ∷ []) (pos 54000000)
-  -- Economy 7
-  pub economy-over : verdictOn (economySeven 23000 18000 12250) ≡ over firstOther (10000 ∷ 10000 ∷ 10000 ∷ []) (pos 367800000000)
+  pub a-mill-over : verdictOn (tiered 0 165510 5 0) ≡ over firstOther (5 ∷ 5 ∷ 5 ∷ []) (tenfold 54000000)
+  -- Economy 7, 58:42
+  pub economy-over : verdictOn (economySeven 23000 18000 12250) ≡ over firstOther (10000 ∷ 10000 ∷ 10000 ∷ []) (tenfold 367800000000)
   -- each of these records is a tariff
   pub records : (recordCheck (flat 23000 18000) ≡ Pass) × (recordCheck (tiered 20000 20000 100 15000) ≡ Pass) × (recordCheck (economySeven 23000 18000 12250) ≡ Pass)

@@ -6,6 +6,7 @@ ghost use mathlib.Core.Path.{_≡_};
 ghost use mathlib.Core.List.{map};
 ghost use Prim.Native.Nat.{ℕ, _<_};
 ghost use lib.ListN.{length, getD};
+ghost use Rattle.sheet.specs.Sheet.{fieldCount};
 ghost use Rattle.benchmark.specs.Lawful.{Lawful};
 ghost use Rattle.book.specs.Calls.{SET, sheetAt, call};
 ghost use Rattle.book.specs.Book.{beyond, under, Reachable};
@@ -19,6 +20,7 @@ use book::Place;
 use book::State;
 use calendar::Period;
 use refusal::Check;
+use sheet::FIELD_COUNT;
 use verdict::Found;
 
 // A place under the figures of a new sheet: an open tariff that exceeds somewhere becomes a draft.
@@ -56,13 +58,13 @@ fn all_judged(places: [Place; 32], figures: Benchmarks) -> [Place; 32]
 }
 
 // The fields of a lent sheet.
-fn fields_of(fields: &[u32]) -> [u32; 95]
-    requires { ⌜ length (now fields) ≡ 95 ⌝ }
+fn fields_of(fields: &[u32]) -> [u32; FIELD_COUNT]
+    requires { ⌜ length (now fields) ≡ fieldCount ⌝ }
     ensures { λ r. ⌜ r ≡ now (fields .entry) ⌝ }
 {
-    let mut copy = [0u32; 95];
+    let mut copy = [0u32; FIELD_COUNT];
     let mut i: usize = 0;
-    while i < 95 {
+    while i < FIELD_COUNT {
         copy[i] = fields[i];
         i += 1;
     }

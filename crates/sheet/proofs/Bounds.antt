@@ -1,6 +1,6 @@
 -- Bounds of a sheet's fields, from their ranges, and of its indexed terms.
 -- Assumes nothing.
-use mathlib.Core.Path.{_≡_}
+use mathlib.Core.Path.{_≡_, refl}
 use mathlib.Core.Bool.{Bool, true, _&&_}
 use mathlib.Core.List.{List}
 use Prim.Native.Nat.{ℕ, _<_, _≤_}
@@ -13,9 +13,10 @@ use lib.ListN.{length}
 use borrow.Author.Tests.{leb-true}
 use Rattle.laws.specs.Notions.{every}
 use Rattle.laws.proofs.Every.{every-at, and-left, and-right}
-use Rattle.sheet.specs.Sheet.{fieldCount, field, smnccField, valueOf, smncc, rangeOf, fieldInRange, fieldsInRange, termMost, dfTerm, cmTerm, pcTerm, ocTerm, paacTerm, fourFit, paacFits, termsFit}
+use Rattle.shares.specs.Shares.{wholeShare}
+use Rattle.sheet.specs.Sheet.{fieldCount, field, smnccField, valueOf, smncc, peakShare, rangeOf, fieldInRange, fieldsInRange, termMost, dfTerm, cmTerm, pcTerm, ocTerm, paacTerm, fourFit, paacFits, termsFit}
 use Rattle.sheet.specs.Ranged.{Ranged, Indexed}
-use Rattle.sheet.proofs.Ranges.{money-first, ppm-at, money-middle, initial-at, current-at, money-last, level-at, plain-bounds, net-cost-mag}
+use Rattle.sheet.proofs.Ranges.{money-first, ppm-at, money-middle, initial-at, current-at, money-last, level-at, tenths-at, plain-bounds, net-cost-mag}
 
 -- a sheet that refusals 1 and 2 let pass
 pub all-ranged : (s : List ℕ) → length s ≡ fieldCount → fieldsInRange s ≡ true → Ranged fieldCount s
@@ -57,6 +58,10 @@ module _ {n : ℕ} (s : List ℕ) (h : Ranged n s) (k : ℕ) (there : k < n) whe
 
   pub level-most : 93 ≤ k → k < 95 → field s k ≤ 20000
   level-most g l = bounds 1 20000 (λ e. omega arith) (level-at k g l) .1
+
+-- the peak share, field 95
+pub peak-most : (s : List ℕ) → Ranged fieldCount s → peakShare s ≤ wholeShare
+peak-most s h = bounds s h 95 (omega arith) 0 wholeShare (λ e. omega arith) (tenths-at 95 refl) .1
 
 -- SMNCC, field 36
 pub smncc-mag : {n : ℕ} (s : List ℕ) → Ranged n s → smnccField < n → mag (smncc s) ≤ 100000000

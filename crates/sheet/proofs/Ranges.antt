@@ -10,7 +10,7 @@ use lib.Signed.{mag, leZ}
 use borrow.Author.Tests.{le-leb, lt-leb, leb-true}
 use Rattle.laws.proofs.Every.{and-left, and-right}
 use Rattle.sheet.specs.declared.Range.{Range}
-use Rattle.sheet.specs.Sheet.{smnccField, signed, valueOf, rangeOf, fieldInRange, money, netCost, ppm, initialIndex, currentIndex, level, nothing}
+use Rattle.sheet.specs.Sheet.{smnccField, signed, valueOf, rangeOf, fieldInRange, money, netCost, ppm, initialIndex, currentIndex, level, tenths, nothing}
 use Rattle.sheet.proofs.Words.{plain-value}
 
 module _ (k : ℕ) where
@@ -52,11 +52,15 @@ module _ (k : ℕ) where
       simp
       (lt-leb k 15 (omega arith), lt-leb k 19 (omega arith), lt-leb k 21 (omega arith), lt-leb k 28 (omega arith), lt-leb k 35 (omega arith), lt-leb k 36 (omega arith), lt-leb k 92 l, le-leb k 94 (omega arith))
 
-  pub nothing-past : 95 ≤ k → rangeOf k ≡ nothing
+  pub tenths-at : k ≡ 95 → rangeOf k ≡ tenths
+  unfolding rangeOf
+  tenths-at e = rw e
+
+  pub nothing-past : 96 ≤ k → rangeOf k ≡ nothing
   unfolding rangeOf
   nothing-past l =
       simp
-      (lt-leb k 15 (omega arith), lt-leb k 19 (omega arith), lt-leb k 21 (omega arith), lt-leb k 28 (omega arith), lt-leb k 35 (omega arith), lt-leb k 36 (omega arith), lt-leb k 92 (omega arith), lt-leb k 94 l)
+      (lt-leb k 15 (omega arith), lt-leb k 19 (omega arith), lt-leb k 21 (omega arith), lt-leb k 28 (omega arith), lt-leb k 35 (omega arith), lt-leb k 36 (omega arith), lt-leb k 92 (omega arith), lt-leb k 94 (omega arith), lt-leb k 95 l)
 
 -- what the test of a field but 36 says
 pub plain-bounds :

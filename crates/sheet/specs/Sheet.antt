@@ -1,4 +1,4 @@
--- "The cost sheet" of document 01, and its indexed terms; field 36 as document 02's M-102 has it.
+-- "The cost sheet" of document 01, and its indexed terms; field 36 as document 02's M-102 has it, field 95 as M-103.
 -- Assumes nothing.
 use mathlib.Core.Bool.{Bool, cond, _&&_}
 use mathlib.Core.List.{List}
@@ -8,11 +8,12 @@ use lib.IntN.{ℤ, pos, negℤ, _+ℤ_, _-ℤ_, _*ℤ_}
 use lib.Signed.{leZ, shrZ}
 use lib.ListN.{getD}
 use Rattle.laws.specs.Notions.{every}
+use Rattle.shares.specs.Shares.{wholeShare}
 use Rattle.sheet.specs.declared.Range.{Range}
 
--- "95 numbers"; field k of a sheet
+-- M-103: "not 96 numbers"; field k of a sheet
 abbrev pub fieldCount : ℕ
-fieldCount = 95
+fieldCount = 96
 
 abbrev pub field : List ℕ → ℕ → ℕ
 field s k = getD s k 0
@@ -31,7 +32,11 @@ valueOf k word = cond (eqb k smnccField) (signed word) (pos word)
 abbrev pub smncc : List ℕ → ℤ
 smncc s = valueOf smnccField (field s smnccField)
 
--- money, a net cost or saving, parts per million, an initial and a current index, a consumption level m
+-- M-103: "field 95, the peak share in tenths"
+abbrev pub peakShare : List ℕ → ℕ
+peakShare s = field s 95
+
+-- money, a net cost or saving, parts per million, an initial and a current index, a consumption level m, a share in tenths of a percent
 abbrev pub money : Range
 money = record { low = pos 0; high = pos 100000000 }
 
@@ -50,12 +55,15 @@ currentIndex = record { low = pos 0; high = pos 1000000000 }
 abbrev pub level : Range
 level = record { low = pos 1; high = pos 20000 }
 
+abbrev pub tenths : Range
+tenths = record { low = pos 0; high = pos wholeShare }
+
 -- no value at all, for a number that is no field's
 abbrev pub nothing : Range
 nothing = record { low = pos 1; high = pos 0 }
 
 -- "The range of a field follows from its number": 0-15 money, 16-19 ppm, 20 and 21 money, 22-28 initial, 29-35 current,
--- 36 a net cost, 37-92 money, 93 and 94 m
+-- 36 a net cost, 37-92 money, 93 and 94 m, 95 tenths
 unfoldable pub rangeOf : ℕ → Range
 rangeOf k =
     cond (leb k 15) money
@@ -64,7 +72,7 @@ rangeOf k =
     (cond (leb k 28) initialIndex
     (cond (leb k 35) currentIndex
     (cond (leb k 36) netCost
-    (cond (leb k 92) money (cond (leb k 94) level nothing)))))))
+    (cond (leb k 92) money (cond (leb k 94) level (cond (leb k 95) tenths nothing))))))))
 
 unfoldable pub fieldInRange : ℕ → ℕ → Bool
 fieldInRange k word = leZ (rangeOf k .low) (valueOf k word) && leZ (valueOf k word) (rangeOf k .high)

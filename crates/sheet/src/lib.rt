@@ -1,4 +1,4 @@
-// The cost sheet: 95 words, the number that each stands for and its range, and the eighteen indexed terms, worked out from fields 0 to 36.
+// The cost sheet: 96 words, the number that each stands for and its range, and the eighteen indexed terms, worked out from fields 0 to 36.
 // Promise: `fields_in_range` is refusal 2 and `terms_fit` refusal 4, turned round; each term is Round(baseline × current, initial), and
 // `smncc_of` is SMNCC with its sign. What the layer above may use: the terms' names and `smncc`, `Ranged` and `Indexed` of
 // specs/Ranged.antt, the bounds in proofs/Bounds.antt, and what depends on fields 0 to 36 alone, proofs/CommonFields.antt.
@@ -6,16 +6,23 @@ ghost use mathlib.Core.Path.{_≡_};
 ghost use mathlib.Core.Bool.{true};
 ghost use Prim.Native.Nat.{_+_, _*_, _≤_, _<_};
 ghost use lib.ListN.{length};
-ghost use Rattle.sheet.specs.Sheet.{rangeOf, valueOf, smncc, fieldInRange, fieldsInRange, round, indexed, dfTerm, cmTerm, pcTerm, ocTerm, paacTerm, fourFit, paacFits, termsFit};
+ghost use Rattle.sheet.specs.Sheet.{fieldCount, rangeOf, valueOf, smncc, fieldInRange, fieldsInRange, round, indexed, dfTerm, cmTerm, pcTerm, ocTerm, paacTerm, fourFit, paacFits, termsFit};
 ghost use Rattle.sheet.specs.CommonFields.{commonCount};
 ghost use Rattle.sheet.specs.Ranged.{Ranged};
+use shares::WHOLE_SHARE;
+
+// The numbers of a sheet.
+pub const FIELD_COUNT: usize = 96;
+
+// The most of a peak share, as the end of a range.
+const PEAK_MOST: i64 = WHOLE_SHARE as i64;
 
 pub struct Range {
     pub low: i64,
     pub high: i64,
 }
 
-// The range of a field follows from its number. Past 94 there is no field, and no value is allowed.
+// The range of a field follows from its number. Past 95 there is no field, and no value is allowed.
 pub fn range_of(number: usize) -> Range
     ensures { λ r. ⌜ r ≡ rangeOf number ⌝ }
 {
@@ -44,6 +51,10 @@ pub fn range_of(number: usize) -> Range
             low: 1,
             high: 20_000,
         },
+        95 => Range {
+            low: 0,
+            high: PEAK_MOST,
+        },
         _ => Range { low: 1, high: 0 },
     }
 }
@@ -67,13 +78,13 @@ fn field_in_range(number: usize, word: u32) -> bool
     r.low <= value && value <= r.high
 }
 
-// Whether each of the 95 fields is in its range.
+// Whether each of the 96 fields is in its range.
 pub fn fields_in_range(s: &[u32]) -> bool
-    requires { ⌜ length (now s) ≡ 95 ⌝ }
+    requires { ⌜ length (now s) ≡ fieldCount ⌝ }
     ensures { λ r. ⌜ r ≡ fieldsInRange (now (s .entry)) ⌝ }
 {
     let mut i: usize = 0;
-    while i < 95 {
+    while i < FIELD_COUNT {
         if !field_in_range(i, s[i]) {
             return false;
         }

@@ -7,6 +7,7 @@
 ghost use mathlib.Core.Path.{_≡_};
 ghost use Prim.Native.Nat.{_≤_, _<_};
 ghost use lib.ListN.{length};
+ghost use Rattle.sheet.specs.Sheet.{fieldCount};
 ghost use Rattle.book.specs.Book.{Reachable};
 use book::Book;
 use book::Reply;
@@ -14,9 +15,10 @@ use calendar::Period;
 use codes::CodeAct;
 use libc::STDOUT_FILENO;
 use queries::Told;
+use sheet::FIELD_COUNT;
 
 // The reference sheet, with network costs lower by 1,000,000 in the last region.
-const SHEET: [u32; 95] = [
+const SHEET: [u32; FIELD_COUNT] = [
     0,
     30_000_000,
     0,
@@ -112,6 +114,7 @@ const SHEET: [u32; 95] = [
     11_000_000,
     3_000,
     4_000, // m
+    580, // the peak share
 ];
 
 // The generator: the next of its states, which have 32 bits.
@@ -231,9 +234,9 @@ fn mixed(k: u32) -> [u32; 13]
             11_000 + k,
             14_000 + k,
             0,
-            50,
-            30,
-            20,
+            500,
+            300,
+            200,
             0,
         ],
     }
@@ -305,9 +308,9 @@ fn fold_book(b: Book, sum: u64) -> u64
 }
 
 // Draws one of the sheet's network costs anew, and its current DFI; the generator's state is then the one returned.
-fn redraw(sheet: &mut [u32; 95], base: &[u32; 95], x: u64) -> u64
-    requires { ⌜ length (now sheet) ≡ 95 ⌝ }
-    ensures { λ r. ⌜ length (now (sheet .exit)) ≡ 95 ⌝ }
+fn redraw(sheet: &mut [u32; FIELD_COUNT], base: &[u32; FIELD_COUNT], x: u64) -> u64
+    requires { ⌜ length (now sheet) ≡ fieldCount ⌝ }
+    ensures { λ r. ⌜ length (now (sheet .exit)) ≡ fieldCount ⌝ }
 {
     let first = next(x);
     let at = 37 + drawn(first, 56) as usize;

@@ -1,4 +1,4 @@
--- "A tariff" of document 01: the record and refusal 8.
+-- "A tariff" of document 01: the record and refusal 8; the shares of kind 3 as document 02's M-103 has them.
 -- Assumes nothing.
 use mathlib.Core.Bool.{Bool, false, cond, _&&_, _||_}
 use mathlib.Core.List.{List, [], _∷_}
@@ -6,15 +6,13 @@ use Prim.Native.Nat.{ℕ, _+_, _-_}
 use lib.Dec.{leb, ltb, eqb}
 use lib.ListN.{length, getD, take}
 use Rattle.laws.specs.Notions.{every, sum}
+use Rattle.shares.specs.Shares.{wholeShare}
 use Rattle.refusal.specs.declared.Check.{Check}
 use Rattle.refusal.specs.declared.Check.the-variants.{Pass}
 use Rattle.refusal.specs.Checks.{unless}
 use Rattle.tariff.specs.declared.Tariff.{Tariff}
 
--- what the shares of the registers add up to, the base of the percentages; the most of a rate, of a standing charge and of a step
-abbrev pub wholeShare : ℕ
-wholeShare = 100
-
+-- the most of a rate, of a standing charge and of a step
 abbrev pub rateMost : ℕ
 rateMost = 200000
 
@@ -63,7 +61,7 @@ singleRegister x =
 unfoldable pub economy7 : Tariff → Bool
 economy7 x = eqb (x .n) 2 && zeroFrom (x .rates) 2 && zeroFrom (x .steps) 0
 
--- "Kind 3, other multi-register: n 2 to 4, n steps that are percentages 0 to 100 with sum 100."
+-- "Kind 3, other multi-register: n 2 to 4, n steps", and M-103: "Kind 3 steps become tenths with sum 1,000."
 unfoldable pub multiRegister : Tariff → Bool
 multiRegister x =
     leb 2 (x .n) && leb (x .n) 4

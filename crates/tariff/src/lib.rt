@@ -8,13 +8,10 @@ ghost use lib.ListN.{length, take};
 ghost use Rattle.laws.specs.Notions.{sum};
 ghost use Rattle.tariff.specs.Tariff.{tariffOf, zeroFrom, within, rising, singleRegister, economy7, multiRegister, validTariff, recordCheck};
 use refusal::Check;
+use shares::WHOLE;
+use shares::WHOLE_SHARE;
 
-// What the shares of the registers add up to, the base of the percentages, and the same as a factor of charges; the most of a rate,
-// of a standing charge and of a step.
-pub const WHOLE_SHARE: u32 = 100;
-
-pub const WHOLE: u64 = WHOLE_SHARE as u64;
-
+// The most of a rate, of a standing charge and of a step.
 pub const RATE_MOST: u32 = 200_000;
 
 pub const STANDING_MOST: u32 = 1_000_000;

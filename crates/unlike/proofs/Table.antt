@@ -3,7 +3,8 @@
 use mathlib.Core.Path.{_≡_, refl}
 use mathlib.Core.Bool.{true}
 use mathlib.Core.List.{List, [], _∷_}
-use Prim.Native.Nat.{ℕ}
+use Prim.Native.Nat.{ℕ, _≤_}
+use native.Mathlib.Omega.{arith}
 use lib.Count.{ones, onesIn}
 use lib.IntN.{pos}
 use Rattle.laws.proofs.Pieces.{scan}
@@ -13,7 +14,8 @@ use Rattle.sheet.specs.Sheet.{signed, valueOf, rangeOf, fieldInRange, fieldsInR
 use Rattle.benchmark.specs.Benchmark.{benchmark, wc, pc, oc, nc, paenc, headroom, panc, figure, figures, ocsFit, ordered, setCheck, benchmarksOf}
 use Rattle.benchmark.specs.Common.{costsAt, sumFrom, common, commonAt, commons}
 use Rattle.tariff.specs.Tariff.{tariffOf, recordCheck, validTariff, validKind, singleRegister, economy7, multiRegister, ratesWithin, zeroFrom, within, rising}
-use Rattle.charge.specs.Charge.{arrangement, tierCharge, weighted, monthCharge, charge}
+use Rattle.shares.specs.Shares.{wholeShare, weighted}
+use Rattle.charge.specs.Charge.{arrangement, tierCharge, monthCharge, charge}
 use Rattle.charge.specs.Tiers.{tiersOf}
 use Rattle.cap.specs.Cap.{maximum, charged, capped, excess}
 use Rattle.cap.specs.Corners.{cornersTo}
@@ -25,15 +27,19 @@ use Rattle.unlike.specs.SheetU.{networks, sheetU, periodU, threeTiers, p
 use Rattle.unlike.specs.Unlike.{Unlike, verdictOn}
 use Rattle.unlike.proofs.Figures.{known, is-known}
 
+split : known .peak ≤ wholeShare
+unfolding known
+split = omega arith
+
 on-known : (x : List ℕ) (v : Verdict) → validTariff (tariffOf x) ≡ true → scannedVerdict known (tariffOf x) ≡ v → verdictOn x ≡ v
-on-known x v = by-scan (benchmarksOf sheetU periodU) known is-known x v
+on-known x v = by-scan (benchmarksOf sheetU periodU) known is-known split x v
 
 -- the verdicts, by the scan
 record Scanned (judge : List ℕ → Verdict) : Type 0 where
-  tiers-over : judge (threeTiers 27000) ≡ over (cell 9 0) (400 ∷ 400 ∷ []) (pos 54991800000)
+  tiers-over : judge (threeTiers 27000) ≡ over (cell 9 0) (400 ∷ 400 ∷ []) (pos 549918000000)
   tiers-within : judge (threeTiers 26000) ≡ opens 2
-  economy-over : judge (peakAt 16100) ≡ over (cell 0 1) (10000 ∷ 10000 ∷ []) (pos 4397766960000)
-  registers-over : judge (threeRegisters 15000) ≡ over (cell 3 1) (10000 ∷ 10000 ∷ []) (pos 10562346840000)
+  economy-over : judge (peakAt 16100) ≡ over (cell 0 1) (10000 ∷ 10000 ∷ []) (pos 58795269600000)
+  registers-over : judge (threeRegisters 15000) ≡ over (cell 3 1) (10000 ∷ 10000 ∷ []) (pos 105623468400000)
   registers-within : judge (threeRegisters 14000) ≡ opens 4
   all-in-one : judge allInOne ≡ opens 2
 

@@ -7,6 +7,7 @@ use Prim.Native.Nat.{ℕ, zero, suc, _+_, _-_, _*_}
 use lib.Dec.{leb, eqb}
 use Rattle.laws.specs.Notions.{tabulate}
 use Rattle.calendar.specs.declared.Period.{Period}
+use Rattle.sheet.specs.Sheet.{fieldCount}
 
 -- NC of n regions from region r on: single-rate falls from region to region, Economy 7 rises
 unfoldable pub networks : ℕ → ℕ → List ℕ
@@ -14,7 +15,7 @@ networks r zero = []
 networks r (suc n) =
     (2200000 - 10007 * r) ∷ (12400000 - 30011 * r) ∷ (2100000 + 20021 * r) ∷ (12500000 + 40039 * r) ∷ networks (suc r) n
 
--- DF0, CM0, PC0, OC0; HAP, PAP, PAAC; initial and current DFI, CMI, CPIH and PI; SMNCC; NC of each region; m
+-- DF0, CM0, PC0, OC0; HAP, PAP, PAAC; initial and current DFI, CMI, CPIH and PI; SMNCC; NC of each region; m; the peak share
 unfoldable pub sheetU : List ℕ
 sheetU =
     (1000000 ∷ 31000000 ∷ 2000000 ∷ 37000000 ∷ [])
@@ -27,6 +28,7 @@ sheetU =
     ++ (512345 ∷ [])
     ++ networks 0 14
     ++ (3100 ∷ 4200 ∷ [])
+    ++ (587 ∷ [])
 
 -- February and March 2024
 abbrev pub periodU : Period
@@ -40,16 +42,16 @@ threeTiers standing = 1 ∷ 3 ∷ standing ∷ 528 ∷ 1 ∷ 20000 ∷ 18700 ∷
 abbrev pub peakAt : ℕ → List ℕ
 peakAt peak = 2 ∷ 2 ∷ 20000 ∷ 8193 ∷ 3 ∷ peak ∷ 14000 ∷ 0 ∷ 0 ∷ 0 ∷ 0 ∷ 0 ∷ 0 ∷ []
 
--- three registers of 50, 30 and 20 percent, in regions 3 and 13 by both methods
+-- three registers of 50, 30 and 20 percent, in tenths, in regions 3 and 13 by both methods
 abbrev pub threeRegisters : ℕ → List ℕ
-threeRegisters rate = 3 ∷ 3 ∷ 18000 ∷ 8200 ∷ 3 ∷ rate ∷ 20000 ∷ 9000 ∷ 0 ∷ 50 ∷ 30 ∷ 20 ∷ 0 ∷ []
+threeRegisters rate = 3 ∷ 3 ∷ 18000 ∷ 8200 ∷ 3 ∷ rate ∷ 20000 ∷ 9000 ∷ 0 ∷ 500 ∷ 300 ∷ 200 ∷ 0 ∷ []
 
 -- two registers, of which the first has all the consumption, in regions 1 and 12 by Other
 abbrev pub allInOne : List ℕ
-allInOne = 3 ∷ 2 ∷ 20000 ∷ 4098 ∷ 2 ∷ 15000 ∷ 150000 ∷ 0 ∷ 0 ∷ 100 ∷ 0 ∷ 0 ∷ 0 ∷ []
+allInOne = 3 ∷ 2 ∷ 20000 ∷ 4098 ∷ 2 ∷ 15000 ∷ 150000 ∷ 0 ∷ 0 ∷ 1000 ∷ 0 ∷ 0 ∷ 0 ∷ []
 
--- A sheet on which the benchmark at m is below that at nil in one region, arrangement and method alone. All indices are 1 and both
--- m are 1; OC0 is 1 at m of the arrangement, NC of the region is 2 at nil and 1 at m, and PAP of the method is a quarter:
+-- A sheet on which the benchmark at m is below that at nil in one region, arrangement and method alone. All indices, both m and the peak
+-- share are 1; OC0 is 1 at m of the arrangement, NC of the region is 2 at nil and 1 at m, and PAP of the method is a quarter:
 -- 2 + Round(0.5) = 3 at nil, 1 + Round(0.25) + 1 + Round(0.25) = 2 at m. By the other method it is 2 and 2.
 unfoldable pub loneField : ℕ → ℕ → ℕ → ℕ → ℕ
 loneField region arrangement method k =
@@ -60,4 +62,4 @@ loneField region arrangement method k =
     (cond (eqb k (37 + 4 * region + 2 * arrangement + 1)) 1 (cond (leb 93 k) 1 0)))))
 
 unfoldable pub lonePair : ℕ → ℕ → ℕ → List ℕ
-lonePair region arrangement method = tabulate 95 (loneField region arrangement method)
+lonePair region arrangement method = tabulate fieldCount (loneField region arrangement method)

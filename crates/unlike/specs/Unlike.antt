@@ -39,12 +39,12 @@ pub record Unlike : Type 0 where
   pub first-region : eightAre sheetU 0 (11420014 ∷ 68981521 ∷ 10886946 ∷ 67489095 ∷ 12780546 ∷ 77414326 ∷ 12223106 ∷ 75779657 ∷ []) ≡ true
   pub last-region : eightAre sheetU 13 (11287321 ∷ 68583575 ∷ 10756465 ∷ 67097782 ∷ 13046024 ∷ 77945243 ∷ 12484160 ∷ 76301726 ∷ []) ≡ true
   -- three tiers: over in region 9 and not in 4, most at the second step
-  pub tiers-over : verdictOn (threeTiers 27000) ≡ over (cell 9 0) (400 ∷ 400 ∷ []) (pos 54991800000)
+  pub tiers-over : verdictOn (threeTiers 27000) ≡ over (cell 9 0) (400 ∷ 400 ∷ []) (pos 549918000000)
   pub tiers-within : verdictOn (threeTiers 26000) ≡ opens 2
   -- Economy 7: over by Other and not by Standard Credit
-  pub economy-over : verdictOn (peakAt 16100) ≡ over (cell 0 1) (10000 ∷ 10000 ∷ []) (pos 4397766960000)
+  pub economy-over : verdictOn (peakAt 16100) ≡ over (cell 0 1) (10000 ∷ 10000 ∷ []) (pos 58795269600000)
   -- three registers: over by Other and not by Standard Credit
-  pub registers-over : verdictOn (threeRegisters 15000) ≡ over (cell 3 1) (10000 ∷ 10000 ∷ []) (pos 10562346840000)
+  pub registers-over : verdictOn (threeRegisters 15000) ≡ over (cell 3 1) (10000 ∷ 10000 ∷ []) (pos 105623468400000)
   pub registers-within : verdictOn (threeRegisters 14000) ≡ opens 4
   -- a register without consumption costs nothing
   pub all-in-one : verdictOn allInOne ≡ opens 2

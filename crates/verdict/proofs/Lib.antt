@@ -2,3 +2,4 @@ pub mod Meaning
 pub mod Count
 pub mod Walk
 pub mod Scanned
+pub mod Splits

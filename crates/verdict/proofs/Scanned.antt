@@ -4,20 +4,18 @@ use mathlib.Core.Path.{_≡_, refl, _∙_, ap}
 use mathlib.Core.Bool.{Bool, true, _&&_}
 use mathlib.Core.List.{List}
 use mathlib.Core.Option.{Option, none, some}
-use Prim.Native.Nat.{ℕ, zero, suc}
-use native.Mathlib.Omega.{arith}
+use Prim.Native.Nat.{ℕ, zero, suc, _≤_}
 use lib.Dec.{ltb}
 use lib.ListN.{length}
+use Rattle.shares.specs.Shares.{wholeShare}
 use Rattle.benchmark.specs.declared.Benchmarks.{Benchmarks}
 use Rattle.tariff.specs.declared.Tariff.{Tariff}
 use Rattle.tariff.specs.Tariff.{validTariff}
-use Rattle.charge.specs.Charge.{arrangement}
 use Rattle.cap.specs.declared.CellNumbers.{CellNumbers}
 use Rattle.cap.specs.Cap.{charged, capped, excess, worstMonths}
 use Rattle.cap.proofs.Comparing.{decided-at-worst}
 use Rattle.cap.proofs.Scanned.{scannedMonths, months-scanned}
-use Rattle.verdict.specs.Cells.{Cell, offered, tariffNumbers, cellAt, exceedsAt, firstOf, firstBelow, firstOver, cellCount, Verdict, opens, over, verdictAt, verdict}
-use Rattle.verdict.proofs.Walk.{peak-of}
+use Rattle.verdict.specs.Cells.{Cell, offered, cellNumbers, tariffNumbers, cellAt, exceedsAt, firstOf, firstBelow, firstOver, cellCount, Verdict, opens, over, verdictAt, verdict}
 
 -- the test by the scan
 abbrev pub overAt : CellNumbers → Tariff → List ℕ → Bool
@@ -36,9 +34,10 @@ scannedAt b x (some c) = over c (scannedMonths (tariffNumbers b x c) x) (excess 
 unfoldable pub scannedVerdict : Benchmarks → Tariff → Verdict
 scannedVerdict b x = scannedAt b x (scannedBelow b x 28)
 
-module _ (b : Benchmarks) (x : Tariff) (v : validTariff x ≡ true) (rs : length (x .rates) ≡ 4) (ss : length (x .steps) ≡ 4) where
+module _ (b : Benchmarks) (x : Tariff) (k : b .peak ≤ wholeShare) (v : validTariff x ≡ true) (rs : length (x .rates) ≡ 4) (ss : length (x .steps) ≡ 4) where
   same-months : (c : Cell) → worstMonths (tariffNumbers b x c) x ≡ scannedMonths (tariffNumbers b x c) x
-  same-months c = months-scanned (tariffNumbers b x c) x (omega (arith, peak-of b (arrangement x) (x .standing) c)) v rs ss
+  unfolding cellNumbers
+  same-months c = months-scanned (tariffNumbers b x c) x k v rs ss
 
   same-below : (n : ℕ) → firstBelow b x n ≡ scannedBelow b x n
   unfolding firstBelow scannedBelow exceedsAt

@@ -23,7 +23,7 @@ use Rattle.cap.specs.declared.WorstCase.{WorstCase}
 use Rattle.cap.specs.Decided.{exceeds?, decided}
 use Rattle.cap.specs.Corners.{Fits, Cornered, Carries}
 use Rattle.verdict.specs.declared.Found.the-variants as found
-use Rattle.verdict.specs.Cells.{Cell, offered, peakShare, cellNumbers, tariffNumbers, exceedsAt, firstBelow, firstOver, cellCount, opens, over, verdictAt, verdict, cell}
+use Rattle.verdict.specs.Cells.{offered, cellNumbers, tariffNumbers, exceedsAt, firstBelow, firstOver, cellCount, opens, over, verdictAt, verdict, cell}
 use Rattle.verdict.specs.Rulings.{Finds}
 use Rattle.verdict.proofs.Meaning.{cell-at-rank, below-none, below-here, below-later}
 
@@ -51,17 +51,13 @@ numbers-fit b h r a p standing hr ha hp hs =
       months-most = h .months-most;
       days-most = h .days-most;
       standing-most = hs;
-      peak-most = omega arith;
+      peak-most = h .peak-most;
     }
-
-pub peak-of : (b : Benchmarks) (a standing : ℕ) (c : Cell) → cellNumbers b a standing c .peak ≡ peakShare
-unfolding cellNumbers
-peak-of b a standing c = refl
 
 -- what the code reads is the numbers of the cell
 pub numbers-are : (b : Benchmarks) (r a p standing at : ℕ) (e : CellNumbers) → at ≡ figureIndex r a p 0
     → e .lower ≡ getD (b .charges) at 0 → e .upper ≡ getD (b .charges) (at + 1) 0 → e .m ≡ getD (b .levels) a 0
-    → e .months ≡ b .months → e .days ≡ b .days → e .standing ≡ standing → e .peak ≡ peakShare → e ≡ cellNumbers b a standing (cell r p)
+    → e .months ≡ b .months → e .days ≡ b .days → e .standing ≡ standing → e .peak ≡ b .peak → e ≡ cellNumbers b a standing (cell r p)
 unfolding cellNumbers
 numbers-are b r a p standing at e is low up m t d s k =
     let next : at + 1 ≡ figureIndex r a p 1 = omega arith in
@@ -71,13 +67,13 @@ numbers-are b r a p standing at e is low up m t d s k =
 
 -- the numbers of a tariff's cell, as the code reads them: they fit, and the corners of the tariff are those that it has there
 pub cell-read : (b : Benchmarks) (x : Tariff) → Lawful b → validTariff x ≡ true → (r p a : ℕ) → r < 14 → p < 2 → a ≡ arrangement x
-    → (e : CellNumbers) → e ≡ cellNumbers b a (x .standing) (cell r p) → (m : ℕ) (k : Corners) → m ≡ getD (b .levels) a 0 → Cornered peakShare x m k
+    → (e : CellNumbers) → e ≡ cellNumbers b a (x .standing) (cell r p) → (m : ℕ) (k : Corners) → m ≡ getD (b .levels) a 0 → Cornered (b .peak) x m k
     → (e ≡ tariffNumbers b x (cell r p)) × Cornered (e .peak) x (e .m) k × Fits e
 unfolding cellNumbers
 cell-read b x h v r p a hr hp ia e is m k l c =
     let same : e ≡ tariffNumbers b x (cell r p) = is ∙ ap (λ (i : ℕ). cellNumbers b i (x .standing) (cell r p)) ia in (
       same,
-      subst (λ (d : CellNumbers). Cornered (d .peak) x (d .m) k) (sym is) (subst (λ (n : ℕ). Cornered peakShare x n k) l c),
+      subst (λ (d : CellNumbers). Cornered (d .peak) x (d .m) k) (sym is) (subst (λ (n : ℕ). Cornered (b .peak) x n k) l c),
       subst Fits (sym same) (numbers-fit b h r (arrangement x) p (x .standing) hr (arrangement-small x) hp (valid-standing x v)),
     )
 

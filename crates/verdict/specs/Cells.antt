@@ -32,10 +32,6 @@ offered x c = bit (x .regions) (c .region) && bit (x .methods) (c .method)
 abbrev pub Offered : Tariff → Cell → Type 0
 Offered x c = (c .region < 14) × (c .method < 2) × (offered x c ≡ true)
 
--- the peak share of Economy 7, in percent (28AD.31)
-abbrev pub peakShare : ℕ
-peakShare = 58
-
 -- the numbers of a cell in an arrangement, with the figures of a sheet, for a standing charge
 unfoldable pub cellNumbers : Benchmarks → (arrangement standing : ℕ) → Cell → CellNumbers
 cellNumbers b arrangement standing c =
@@ -46,7 +42,7 @@ cellNumbers b arrangement standing c =
       months = b .months;
       days = b .days;
       standing = standing;
-      peak = peakShare;
+      peak = b .peak;
     }
 
 -- those of a tariff's cell: kind 1 is held to arrangement 0, kinds 2 and 3 to arrangement 1

@@ -18,9 +18,6 @@ use benchmark::Benchmarks;
 use cap::CellNumbers;
 use tariff::Tariff;
 
-// The peak share of Economy 7.
-const PEAK_SHARE: u32 = 58;
-
 // The first cell that exceeds, as region and method.
 pub enum Found {
     Nowhere,
@@ -67,10 +64,11 @@ pub fn cell_count(x: Tariff) -> u32
     u32::count_ones(x.regions) * u32::count_ones(x.methods)
 }
 
-// The numbers of a cell in an arrangement, for a standing charge, from the 112 figures, m, t and the days.
+// The numbers of a cell in an arrangement, for a standing charge, from the 112 figures, m, the peak share, t and the days.
 fn cell_numbers(
     charges: &[u32],
     m: u32,
+    peak: u32,
     months: u32,
     days: u32,
     arrangement: usize,
@@ -79,7 +77,7 @@ fn cell_numbers(
     method: u32,
 ) -> CellNumbers
     requires { ⌜ (length (now charges) ≡ 112) × (arrangement < 2) × (region < 14) × (method < 2) ⌝ }
-    ensures { λ r. ⌜ ((b : Benchmarks) → b .charges ≡ now (charges .entry) → getD (b .levels) arrangement 0 ≡ m → b .months ≡ months → b .days ≡ days → r ≡ cellNumbers b arrangement standing (cell region method)) ⌝ }
+    ensures { λ r. ⌜ ((b : Benchmarks) → b .charges ≡ now (charges .entry) → getD (b .levels) arrangement 0 ≡ m → b .peak ≡ peak → b .months ≡ months → b .days ≡ days → r ≡ cellNumbers b arrangement standing (cell region method)) ⌝ }
 {
     let at = benchmark::figure_index(region as usize, arrangement, method as usize, 0);
     CellNumbers {
@@ -89,7 +87,7 @@ fn cell_numbers(
         months: wide(months),
         days,
         standing,
-        peak: PEAK_SHARE,
+        peak,
     }
 }
 
@@ -109,6 +107,7 @@ pub fn numbers_in(
     cell_numbers(
         &charges,
         levels[arrangement],
+        b.peak,
         b.months,
         b.days,
         arrangement,
@@ -127,7 +126,7 @@ pub fn first_over(b: Benchmarks, x: Tariff) -> Found
     let levels = b.levels;
     let arrangement = arrangement_of(x);
     let m = levels[arrangement];
-    let k = cap::corners_of(x, PEAK_SHARE, wide(m));
+    let k = cap::corners_of(x, b.peak, wide(m));
     let mut region: u32 = 0;
     let found = 'walk: loop {
         if 14 <= region {
@@ -139,6 +138,7 @@ pub fn first_over(b: Benchmarks, x: Tariff) -> Found
                     let e = cell_numbers(
                         &charges,
                         m,
+                        b.peak,
                         b.months,
                         b.days,
                         arrangement,

@@ -1,7 +1,7 @@
 -- The worked lists hold: each answer from the starred table, one call after the other.
 -- Assumes nothing.
-use mathlib.Core.Path.{_≡_, refl, _∙_, ap}
-use mathlib.Core.Bool.{Bool, true, false, cond}
+use mathlib.Core.Path.{_≡_, refl, _∙_, ap, ap₂}
+use mathlib.Core.Bool.{Bool, true, false, cond, not}
 use mathlib.Core.List.{List, [], _∷_, map}
 use mathlib.Core.Option.{Option, none, some}
 use Rattle.refusal.specs.declared.Check.{Check}
@@ -13,7 +13,7 @@ use Rattle.tariff.specs.declared.Tariff.{Tariff}
 use Rattle.tariff.specs.Tariff.{tariffOf, recordCheck}
 use Rattle.verdict.specs.Cells.{Cell, offered, cellNumbers, Verdict, opens, verdict, verdictAt, firstOver}
 use Rattle.verdict.specs.Cells as cells
-use Rattle.book.specs.Calls.{Record, Act, SET, PUT, call, Answer, accepted, opened, refused, isAccepted, isNone}
+use Rattle.book.specs.Calls.{Sheet, Record, Act, SET, PUT, call, Answer, accepted, opened, refused, isAccepted, isNone}
 use Rattle.book.specs.Checks.{figuresOf, complies, verdictAnswer, setAnswer, answer}
 use Rattle.history.specs.History.{readings, answersAfter}
 use Rattle.laws.specs.Notions.{every, sum, total, tabulate, tabulateFrom, bit}
@@ -24,9 +24,11 @@ use Rattle.cap.specs.Cap.{maximum, charged, capped}
 use Rattle.book.specs.Book.{fresh, bookAfter, step, changed}
 use Rattle.queries.specs.Queries.{quotation, quoteOf, cellAllowed, monthsAllowed}
 use Rattle.reference.specs.SheetS.{sheetS, times}
+use Rattle.reference.specs.Splits.{dayDear}
 use Rattle.reference.proofs.Table.{starred}
+use Rattle.reference.proofs.Splits.{splits}
 use Rattle.worked.proofs.October.{october-accepted, october-low, october-close, close-record, high-record}
-use Rattle.worked.specs.Worked.{quarter, october, noFields, low, close, steep, bookOf, Worked}
+use Rattle.worked.specs.Worked.{quarter, october, splitAt, noFields, low, close, steep, bookOf, Worked}
 
 -- the answers to a list, one after the other
 data Told : List Act → List Act → List Answer → Type 0 where
@@ -69,10 +71,29 @@ no-fields-set : setAnswer noFields ≡ refused 1
 unfolding setCheck
 no-fields-set = refl
 
--- CLOSE after October's sheet: the first tariff is a draft, and the second is still open
-closed-if : (x : Record) (v : Verdict) → verdict (figuresOf october) (tariffOf x) ≡ v
-    → need refused (complies (figuresOf october) (tariffOf x)) 12 accepted ≡ need refused (isOpening v) 12 accepted
-closed-if x v e = ap (λ t. need refused t 12 accepted) (complying (figuresOf october) (tariffOf x) ∙ ap isOpening e)
+-- CLOSE after a SET: accepted where the tariff still opens under the new sheet, and 12 where it is a draft
+closed-if : (s : Sheet) (x : Record) (v : Verdict) → verdict (figuresOf s) (tariffOf x) ≡ v
+    → need refused (complies (figuresOf s) (tariffOf x)) 12 accepted ≡ need refused (isOpening v) 12 accepted
+closed-if s x v e = ap (λ t. need refused t 12 accepted) (complying (figuresOf s) (tariffOf x) ∙ ap isOpening e)
+
+-- and OPEN: 7 where it is open still, or its verdict
+opened-if : (s : Sheet) (x : Record) (v : Verdict) → verdict (figuresOf s) (tariffOf x) ≡ v
+    → need refused (not (complies (figuresOf s) (tariffOf x))) 7 (verdictAnswer (verdict (figuresOf s) (tariffOf x)))
+    ≡ need refused (not (isOpening v)) 7 (verdictAnswer v)
+opened-if s x v e = ap₂ (λ t w. need refused (not t) 7 (verdictAnswer w)) (complying (figuresOf s) (tariffOf x) ∙ ap isOpening e) e
+
+-- the sheet with another split
+pub other-set : setAnswer (splitAt 579) ≡ accepted
+other-set = passed (splits .accepted .1)
+
+pub seven-put : checked refused (recordCheck dayDear) accepted ≡ accepted
+seven-put = passed (splits .records .0)
+
+pub seven-opens : verdictAnswer (verdict (figuresOf (splitAt 579)) (tariffOf dayDear)) ≡ opened 28
+seven-opens = ap verdictAnswer (splits .verdicts .at-579)
+
+pub low-opens-too : verdictAnswer (verdict (figuresOf (splitAt 579)) (tariffOf low)) ≡ opened 28
+low-opens-too = ap verdictAnswer (splits .verdicts .flat-within)
 
 -- the book after two calls, and its QUOTE
 two-calls : bookOf (SET quarter ∷ PUT 7 steep ∷ []) ≡ changed (changed fresh (SET quarter)) (PUT 7 steep)
@@ -80,7 +101,7 @@ unfolding bookAfter step
 two-calls = rw (starred .accepted, starred .records .1)
 
 quote-told : quoteOf (changed (changed fresh (SET quarter)) (PUT 7 steep)) 7 0 1 (300 ∷ 0 ∷ 0 ∷ [])
-    ≡ quotation (record { charge = 24624000000000; maximum = 27970470000000 })
+    ≡ quotation (record { charge = 246240000000000; maximum = 279704700000000 })
 unfolding quoteOf cellAllowed monthsAllowed every offered bit cellNumbers arrangement tierCharge charge maximum charged capped sum total benchmarksOf figures figure tabulate tabulateFrom benchmark wc pc oc nc paenc headroom panc valueOf signed indexed round roundSigned sheetS times periodDays monthBegins lengthAt monthLength leapYear
 quote-told = refl
 
@@ -95,7 +116,17 @@ worked =
           (then low-put
           (then (ap verdictAnswer (starred .just-within))
           (then low-opens
-          (then (passed october-accepted) (then (closed-if close _ october-close) (then (closed-if low _ october-low) ended))))))));
+          (then (passed october-accepted) (then (closed-if october close _ october-close) (then (closed-if october low _ october-low) ended))))))));
+      split-falls =
+          told
+          (then other-set
+          (then seven-put
+          (then low-put
+          (then seven-opens
+          (then low-opens-too
+          (then quarter-set
+          (then (closed-if quarter dayDear _ (starred .economy-over))
+          (then (closed-if quarter low _ (starred .within)) (then (opened-if quarter dayDear _ (starred .economy-over)) ended)))))))));
       again = told (then quarter-set (then low-put (then low-opens (then refl (then low-opens ended)))));
       refused-between = told (then quarter-set (then low-put (then low-opens (then no-fields-set (then refl ended)))));
       codes = told (then refl (then refl (then refl (then refl ended))));

@@ -5,33 +5,34 @@ use Rattle.laws.specs.Notions.{every, sum, total, tabulate, tabulateFrom, bit}
 use Rattle.calendar.specs.Calendar.{periodDays, monthBegins, lengthAt, monthLength, leapYear}
 use Rattle.sheet.specs.Sheet.{signed, valueOf, round, roundSigned, indexed}
 use Rattle.benchmark.specs.Benchmark.{benchmark, wc, pc, oc, nc, paenc, headroom, panc, figure, figures, benchmarksOf}
-use Rattle.charge.specs.Charge.{arrangement, tierCharge, weighted, charge}
+use Rattle.shares.specs.Shares.{weighted}
+use Rattle.charge.specs.Charge.{arrangement, tierCharge, charge}
 use Rattle.cap.specs.Cap.{maximum, charged, capped}
 use Rattle.verdict.specs.Cells.{offered, cellNumbers}
 use Rattle.book.specs.declared.Book.{Book}
 use Rattle.book.specs.Calls.{sheetAt, SET, PUT}
 use Rattle.book.specs.Book.{fresh, bookAfter, step, changed}
 use Rattle.queries.specs.Queries.{benchmarkOf, maximumOf, quoteOf, cellAllowed, monthsAllowed}
-use Rattle.unlike.specs.SheetU.{networks, sheetU, periodU, threeTiers, threeRegisters}
+use Rattle.unlike.specs.SheetU.{networks, sheetU, periodU, threeTiers, peakAt, threeRegisters}
 use Rattle.unlike.proofs.Table.{unlike}
-use Rattle.worked.specs.Queried.{twoTariffs, noSheet, Queried}
+use Rattle.worked.specs.Queried.{threeTariffs, noSheet, Queried}
 
 -- the calls are accepted
-abbrev two : Book
-two = changed (changed (changed fresh (SET (sheetAt sheetU periodU))) (PUT 1 (threeTiers 27000))) (PUT 4 (threeRegisters 15000))
+abbrev three : Book
+three = changed (changed (changed (changed fresh (SET (sheetAt sheetU periodU))) (PUT 1 (threeTiers 27000))) (PUT 4 (threeRegisters 15000))) (PUT 5 (peakAt 16100))
 
 abbrev bare : Book
 bare = changed fresh (PUT 4 (threeRegisters 15000))
 
-after-three : twoTariffs ≡ two
+after-four : threeTariffs ≡ three
 unfolding bookAfter step
-after-three = rw (unlike .accepted, unlike .records .0, unlike .records .2)
+after-four = rw (unlike .accepted, unlike .records .0, unlike .records .2, unlike .records .1)
 
 after-one : noSheet ≡ bare
 unfolding bookAfter step
 after-one = rw (unlike .records .2)
 
-computed : Queried two bare
+computed : Queried three bare
 unfolding benchmarkOf maximumOf quoteOf cellAllowed monthsAllowed every offered bit cellNumbers arrangement tierCharge weighted charge maximum charged capped sum total benchmarksOf figures figure tabulate tabulateFrom benchmark wc pc oc nc paenc headroom panc valueOf signed indexed round roundSigned sheetU networks periodDays monthBegins lengthAt monthLength leapYear
 computed =
     record {
@@ -47,8 +48,9 @@ computed =
       quote-13-months = (refl, refl);
       quoted-tiers = refl;
       quoted-registers = refl;
+      quoted-economy = refl;
       quoted-most = refl;
     }
 
-pub queried : Queried twoTariffs noSheet
-queried = subst₂ Queried (sym after-three) (sym after-one) computed
+pub queried : Queried threeTariffs noSheet
+queried = subst₂ Queried (sym after-four) (sym after-one) computed

@@ -16,6 +16,8 @@ unfolding answersAfter setCheck fieldsInRange fieldInRange valueOf signed rangeO
 refusals =
     record {
       set-ranges = refl;
+      set-count = refl;
+      set-splits = refl;
       set-periods = refl;
       set-terms = refl;
       set-smncc = refl;

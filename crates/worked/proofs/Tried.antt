@@ -25,13 +25,14 @@ use Rattle.trial.specs.Trial.{codesWhere, trialOf}
 use Rattle.trial.specs.Places.{fellFrom}
 use Rattle.trial.proofs.Trials.{trial-refused, trial-told}
 use Rattle.reference.specs.SheetS.{sheetS, times}
+use Rattle.reference.specs.Splits.{dayDear}
 use Rattle.reference.proofs.Table.{starred}
 use Rattle.unlike.specs.SheetU.{loneField, lonePair}
 use Rattle.worked.proofs.October.{october-accepted, october-low, october-close, close-record}
-use Rattle.worked.proofs.Lists.{isOpening, complying, passed, quarter-set, low-put, low-opens}
-use Rattle.worked.specs.Worked.{quarter, october, noFields, low, close}
+use Rattle.worked.proofs.Lists.{isOpening, complying, passed, quarter-set, low-put, low-opens, other-set, seven-put, seven-opens, low-opens-too}
+use Rattle.worked.specs.Worked.{quarter, october, splitAt, noFields, low, close}
 use Rattle.worked.specs.Refusals.{withField, forPeriod, bothWrong, unordered, saving, termAndOc, ocAndOrder}
-use Rattle.worked.specs.Tried.{twoOpen, threeOpen, oneClosed, Tried}
+use Rattle.worked.specs.Tried.{twoOpen, threeOpen, oneClosed, otherSplit, Tried}
 
 -- a list of accepted calls, and the book that it leaves
 data Makes : Book → List Act → Book → Type 0 where
@@ -62,6 +63,12 @@ two-left = makes (five-then ended)
 three-left : threeOpen ≡ changed (changed twoOpened (PUT 32 close)) (OPEN 32)
 three-left = makes (five-then (then accepted (passed close-record) refl (then (opened 28) close-opens refl ended)))
 
+other-left : otherSplit ≡ changed (changed (changed (changed (changed fresh (SET (splitAt 579))) (PUT 1 dayDear)) (PUT 2 low)) (OPEN 1)) (OPEN 2)
+other-left =
+    makes
+    (then accepted other-set refl
+    (then accepted seven-put refl (then accepted low-put refl (then (opened 28) seven-opens refl (then (opened 28) low-opens-too refl ended)))))
+
 closed-left : oneClosed ≡ changed twoOpened (CLOSE 1)
 closed-left = makes (five-then (then accepted refl refl ended))
 
@@ -86,10 +93,10 @@ judged s x v e = ap (λ t. placeWith (openIf t) x) (complying (figuresOf s) x �
 abbrev RefusedBy : Sheet → ℕ → Type 0
 RefusedBy s n = setCheck (s .fields) (s .period) ≡ Refuse n
 
-refused-sheets : RefusedBy noFields 1 × RefusedBy (withField 94 0) 2 × RefusedBy bothWrong 2 × RefusedBy (forPeriod 2023 13 1) 3
+refused-sheets : RefusedBy (splitAt 1001) 2 × RefusedBy noFields 1 × RefusedBy (withField 94 0) 2 × RefusedBy bothWrong 2 × RefusedBy (forPeriod 2023 13 1) 3
     × RefusedBy (withField 20 100000000) 4 × RefusedBy termAndOc 4 × RefusedBy (saving 5250001) 14 × RefusedBy ocAndOrder 14 × RefusedBy unordered 5
 unfolding setCheck fieldsInRange fieldInRange valueOf signed rangeOf every sum termsFit fourFit paacFits ocsFit ordered periodInRange figures figure tabulate tabulateFrom benchmark wc pc oc nc paenc headroom panc indexed round roundSigned sheetS times loneField lonePair
-refused-sheets = (refl, refl, refl, refl, refl, refl, refl, refl, refl)
+refused-sheets = (refl, refl, refl, refl, refl, refl, refl, refl, refl, refl)
 
 -- THE TRIALS
 pub tried : Tried
@@ -103,6 +110,9 @@ tried =
           told-by threeOpen october october-accepted _ _ _ _ _ _ 2147483649 (ap (λ b. b .places) three-left)
           (judged october (tariffOf close) _ october-close) (judged october (tariffOf low) _ october-low)
           (judged october (tariffOf close) _ october-close) refl;
+      split-falls =
+          told-by otherSplit quarter (starred .accepted) _ _ _ _ _ _ 1 (ap (λ b. b .places) other-left)
+          (judged quarter (tariffOf dayDear) _ (starred .economy-over)) (judged quarter (tariffOf low) _ (starred .within)) refl refl;
       draft-stays =
           told-by oneClosed october october-accepted _ _ _ _ _ _ 0 (ap (λ b. b .places) closed-left)
           refl (judged october (tariffOf low) _ october-low) refl refl;
@@ -110,10 +120,10 @@ tried =
           told-by twoOpen quarter (starred .accepted) _ _ _ _ _ _ 0 (ap (λ b. b .places) two-left)
           (judged quarter (tariffOf close) _ (starred .just-within)) (judged quarter (tariffOf low) _ (starred .within)) refl refl;
       no-sheet = rw october-accepted;
-      refused-1 = trial-refused twoOpen noFields 1 (refused-sheets .0);
-      refused-2 = (trial-refused twoOpen (withField 94 0) 2 (refused-sheets .1), trial-refused twoOpen bothWrong 2 (refused-sheets .2));
-      refused-3 = trial-refused twoOpen (forPeriod 2023 13 1) 3 (refused-sheets .3);
-      refused-4 = (trial-refused twoOpen (withField 20 100000000) 4 (refused-sheets .4), trial-refused twoOpen termAndOc 4 (refused-sheets .5));
-      refused-14 = (trial-refused twoOpen (saving 5250001) 14 (refused-sheets .6), trial-refused twoOpen ocAndOrder 14 (refused-sheets .7));
-      refused-5 = trial-refused twoOpen unordered 5 (refused-sheets .8);
+      refused-1 = trial-refused twoOpen noFields 1 (refused-sheets .1);
+      refused-2 = (trial-refused twoOpen (withField 94 0) 2 (refused-sheets .2), trial-refused twoOpen bothWrong 2 (refused-sheets .3), trial-refused twoOpen (splitAt 1001) 2 (refused-sheets .0));
+      refused-3 = trial-refused twoOpen (forPeriod 2023 13 1) 3 (refused-sheets .4);
+      refused-4 = (trial-refused twoOpen (withField 20 100000000) 4 (refused-sheets .5), trial-refused twoOpen termAndOc 4 (refused-sheets .6));
+      refused-14 = (trial-refused twoOpen (saving 5250001) 14 (refused-sheets .7), trial-refused twoOpen ocAndOrder 14 (refused-sheets .8));
+      refused-5 = trial-refused twoOpen unordered 5 (refused-sheets .9);
     }

@@ -2,15 +2,15 @@
 -- Assumes nothing.
 use mathlib.Core.Path.{_≡_}
 use mathlib.Core.Bool.{false}
-use mathlib.Core.List.{[], _∷_}
+use mathlib.Core.List.{[], _∷_, _++_}
 use Prim.Native.Nat.{ℕ, _+_, _-_}
-use lib.ListN.{set}
+use lib.ListN.{set, take}
 use Rattle.sheet.specs.Sheet.{termsFit}
 use Rattle.benchmark.specs.Benchmark.{figures, ocsFit, ordered}
 use Rattle.book.specs.Calls.{Sheet, sheetAt, Record, SET, PUT, OPEN, CLOSE, DROP, accepted, refused}
-use Rattle.reference.specs.SheetS.{sheetS, periodS, offeredEverywhere}
+use Rattle.reference.specs.SheetS.{sheetS, withSplit, periodS, offeredEverywhere, twoRegisters}
 use Rattle.unlike.specs.SheetU.{lonePair}
-use Rattle.worked.specs.Worked.{answersTo}
+use Rattle.worked.specs.Worked.{splitAt, answersTo}
 
 -- sheet S with another number in one field, and for another period
 abbrev pub withField : ℕ → ℕ → Sheet
@@ -19,9 +19,12 @@ withField k n = sheetAt (set sheetS k n) periodS
 abbrev pub forPeriod : ℕ → ℕ → ℕ → Sheet
 forPeriod year month t = sheetAt sheetS (record { year = year; month = month; months = t })
 
--- both wrong: m of 0, and month 13
+-- both wrong: m of 0, and month 13; a peak share of 1,001, and month 13
 abbrev pub bothWrong : Sheet
 bothWrong = sheetAt (set sheetS 93 0) (record { year = 2023; month = 13; months = 3 })
+
+abbrev pub splitAndPeriod : Sheet
+splitAndPeriod = sheetAt (withSplit 1001) (record { year = 2023; month = 13; months = 3 })
 
 -- a sheet of which one pair of benchmarks alone is out of order
 abbrev pub unordered : Sheet
@@ -46,20 +49,26 @@ termAndOc = sheetAt (set (saving 5250001 .fields) 20 100000000) periodS
 abbrev pub ocAndOrder : Sheet
 ocAndOrder = sheetAt (set (lonePair 13 1 1) 36 4294967295) periodS
 
--- two rates with one step, three with two; two registers with their percentages
+-- two rates with one step, three with two; two registers with their shares
 abbrev pub oneStep : ℕ → Record
 oneStep a = offeredEverywhere 1 2 23000 (18000 ∷ 17000 ∷ 0 ∷ 0 ∷ []) (a ∷ 0 ∷ 0 ∷ 0 ∷ [])
 
 abbrev pub twoSteps : ℕ → ℕ → Record
 twoSteps a b = offeredEverywhere 1 3 23000 (18000 ∷ 17000 ∷ 16000 ∷ 0 ∷ []) (a ∷ b ∷ 0 ∷ 0 ∷ [])
 
-abbrev pub twoRegisters : ℕ → ℕ → Record
-twoRegisters a b = offeredEverywhere 3 2 0 (15000 ∷ 12250 ∷ 0 ∷ 0 ∷ []) (a ∷ b ∷ 0 ∷ 0 ∷ [])
+abbrev pub withShares : ℕ → ℕ → Record
+withShares a b = twoRegisters 0 15000 a 12250 b
 
 pub record Refusals : Type 0 where
   -- 2: m of either arrangement has its own range, 1 to 20,000; the last field is tested too
   pub set-ranges : answersTo (SET (withField 94 0) ∷ SET (withField 94 20001) ∷ SET (withField 93 20001) ∷ SET (withField 94 20000) ∷ [])
       ≡ refused 2 ∷ refused 2 ∷ refused 2 ∷ accepted ∷ []
+  -- 1: 95 numbers are too few now, and 97 too many
+  pub set-count : answersTo (SET (sheetAt (take 95 sheetS) periodS) ∷ SET (sheetAt (sheetS ++ (0 ∷ [])) periodS) ∷ SET (sheetAt sheetS periodS) ∷ [])
+      ≡ refused 1 ∷ refused 1 ∷ accepted ∷ []
+  -- 2: the peak share is 0 to 1,000; 2 comes before 3
+  pub set-splits : answersTo (SET (splitAt 0) ∷ SET (splitAt 1000) ∷ SET (splitAt 1001) ∷ SET (splitAt 10000) ∷ SET splitAndPeriod ∷ [])
+      ≡ accepted ∷ accepted ∷ refused 2 ∷ refused 2 ∷ refused 2 ∷ []
   -- 3: the years 2018 to 2099, the months 1 to 12, t from 1 to 12; and 2 comes before 3
   pub set-periods : answersTo (SET (forPeriod 2017 12 3) ∷ SET (forPeriod 2100 1 3) ∷ SET (forPeriod 2023 0 3) ∷ SET (forPeriod 2023 10 0) ∷ SET (forPeriod 2023 10 13) ∷ SET bothWrong ∷ SET (forPeriod 2099 12 12) ∷ [])
       ≡ refused 3 ∷ refused 3 ∷ refused 3 ∷ refused 3 ∷ refused 3 ∷ refused 2 ∷ accepted ∷ []
@@ -77,7 +86,8 @@ pub record Refusals : Type 0 where
   -- 8: a step is 1 to 9,999, and steps rise strictly
   pub put-steps : answersTo (PUT 9 (oneStep 0) ∷ PUT 9 (oneStep 1) ∷ PUT 9 (oneStep 9999) ∷ PUT 9 (oneStep 10000) ∷ PUT 9 (twoSteps 5 5) ∷ PUT 9 (twoSteps 5 6) ∷ [])
       ≡ refused 8 ∷ accepted ∷ accepted ∷ refused 8 ∷ refused 8 ∷ accepted ∷ []
-  -- 8: percentages are 0 to 100, their sum 100
-  pub put-shares : answersTo (PUT 9 (twoRegisters 57 42) ∷ PUT 9 (twoRegisters 101 0) ∷ PUT 9 (twoRegisters 100 0) ∷ []) ≡ refused 8 ∷ refused 8 ∷ accepted ∷ []
+  -- 8: shares are tenths, 0 to 1,000, their sum 1,000; in percent, with the sum 100, they are refused
+  pub put-shares : answersTo (PUT 9 (withShares 579 420) ∷ PUT 9 (withShares 580 421) ∷ PUT 9 (withShares 1001 0) ∷ PUT 9 (withShares 58 42) ∷ PUT 9 (withShares 1000 0) ∷ PUT 9 (withShares 580 420) ∷ [])
+      ≡ refused 8 ∷ refused 8 ∷ refused 8 ∷ refused 8 ∷ accepted ∷ accepted ∷ []
   -- 9: an empty place has nothing to close, to open or to drop
   pub empty-place : answersTo (CLOSE 20 ∷ OPEN 20 ∷ DROP 20 ∷ []) ≡ refused 9 ∷ refused 9 ∷ refused 9 ∷ []

@@ -7,7 +7,8 @@ use Rattle.book.specs.Calls.{Act, SET, PUT, OPEN, CLOSE}
 use Rattle.book.specs.Book.{fresh}
 use Rattle.queries.specs.Queries.{refused, falling}
 use Rattle.trial.specs.Trial.{trialOf}
-use Rattle.worked.specs.Worked.{quarter, october, noFields, low, close, bookOf}
+use Rattle.reference.specs.Splits.{dayDear}
+use Rattle.worked.specs.Worked.{quarter, october, splitAt, noFields, low, close, bookOf}
 use Rattle.worked.specs.Refusals.{withField, forPeriod, bothWrong, unordered, saving, termAndOc, ocAndOrder}
 
 -- the sheet of the quarter, with two open tariffs; a third one in place 32; and the first closed again
@@ -23,17 +24,23 @@ threeOpen = bookOf (openingTwo ++ (PUT 32 close ∷ OPEN 32 ∷ []))
 abbrev pub oneClosed : Book
 oneClosed = bookOf (openingTwo ++ (CLOSE 1 ∷ []))
 
+-- the sheet with a peak share of 579, an open Economy 7 tariff and another
+abbrev pub otherSplit : Book
+otherSplit = bookOf (SET (splitAt 579) ∷ PUT 1 dayDear ∷ PUT 2 low ∷ OPEN 1 ∷ OPEN 2 ∷ [])
+
 pub record Tried : Type 0 where
   -- October's sheet would send the first of the two back to draft: bit 0; and in place 32 as well: bits 0 and 31
   pub one-falls : trialOf twoOpen october ≡ falling 1
   pub last-place : trialOf threeOpen october ≡ falling 2147483649
+  -- a split of 580 would send the Economy 7 tariff back
+  pub split-falls : trialOf otherSplit quarter ≡ falling 1
   -- a draft does not fall; nothing falls under the sheet in force; and a trial needs no sheet in force
   pub draft-stays : trialOf oneClosed october ≡ falling 0
   pub same-sheet : trialOf twoOpen quarter ≡ falling 0
   pub no-sheet : trialOf fresh october ≡ falling 0
   -- 1 to 5 and 14, as SET; 2 comes before 3, 4 before 14, and 14 before 5
   pub refused-1 : trialOf twoOpen noFields ≡ refused 1
-  pub refused-2 : (trialOf twoOpen (withField 94 0) ≡ refused 2) × (trialOf twoOpen bothWrong ≡ refused 2)
+  pub refused-2 : (trialOf twoOpen (withField 94 0) ≡ refused 2) × (trialOf twoOpen bothWrong ≡ refused 2) × (trialOf twoOpen (splitAt 1001) ≡ refused 2)
   pub refused-3 : trialOf twoOpen (forPeriod 2023 13 1) ≡ refused 3
   pub refused-4 : (trialOf twoOpen (withField 20 100000000) ≡ refused 4) × (trialOf twoOpen termAndOc ≡ refused 4)
   pub refused-14 : (trialOf twoOpen (saving 5250001) ≡ refused 14) × (trialOf twoOpen ocAndOrder ≡ refused 14)

@@ -3,12 +3,14 @@
 use mathlib.Core.Path.{_≡_}
 use mathlib.Core.List.{List, [], _∷_, map}
 use lib.IntN.{pos}
+use Prim.Native.Nat.{ℕ}
 use Rattle.book.specs.declared.Book.{Book}
 use Rattle.book.specs.Calls.{Sheet, Record, Act, SET, PUT, OPEN, CLOSE, DROP, call, Answer, accepted, opened, refused, over}
 use Rattle.book.specs.Book.{fresh, bookAfter}
 use Rattle.queries.specs.Queries.{quotation, quoteOf}
-use Rattle.reference.specs.SheetS.{sheetS, periodS, flat, tiered}
+use Rattle.reference.specs.SheetS.{sheetS, withSplit, periodS, flat, tiered}
 use Rattle.reference.specs.Starred.{firstOther}
+use Rattle.reference.specs.Splits.{dayDear}
 use Rattle.history.specs.History.{answersAfter}
 
 -- sheet S for October to December 2023, and for October alone
@@ -17,6 +19,10 @@ quarter = record { fields = sheetS; period = periodS }
 
 abbrev pub october : Sheet
 october = record { fields = sheetS; period = record { year = 2023; month = 10; months = 1 } }
+
+-- the sheet of the quarter with another peak share
+abbrev pub splitAt : ℕ → Sheet
+splitAt tenths = record { fields = withSplit tenths; period = periodS }
 
 -- no sheet at all
 abbrev pub noFields : Sheet
@@ -47,6 +53,9 @@ pub record Worked : Type 0 where
   -- a sheet that makes one of two open tariffs a draft: closing it again is 12, closing the other is accepted
   pub demoted : answersTo (SET quarter ∷ PUT 1 close ∷ PUT 2 low ∷ OPEN 1 ∷ OPEN 2 ∷ SET october ∷ CLOSE 1 ∷ CLOSE 2 ∷ [])
       ≡ accepted ∷ accepted ∷ accepted ∷ opened 28 ∷ opened 28 ∷ accepted ∷ refused 12 ∷ accepted ∷ []
+  -- a sheet that differs from the one in force in field 95 alone: an Economy 7 tariff falls, and is over the cap by a tenth of a percent
+  pub split-falls : answersTo (SET (splitAt 579) ∷ PUT 1 dayDear ∷ PUT 2 low ∷ OPEN 1 ∷ OPEN 2 ∷ SET quarter ∷ CLOSE 1 ∷ CLOSE 2 ∷ OPEN 1 ∷ [])
+      ≡ accepted ∷ accepted ∷ accepted ∷ opened 28 ∷ opened 28 ∷ accepted ∷ refused 12 ∷ accepted ∷ over firstOther (10000 ∷ 10000 ∷ 10000 ∷ []) (pos 3678000000000) ∷ []
   -- open, close, open
   pub again : answersTo (SET quarter ∷ PUT 1 low ∷ OPEN 1 ∷ CLOSE 1 ∷ OPEN 1 ∷ []) ≡ accepted ∷ accepted ∷ opened 28 ∷ accepted ∷ opened 28 ∷ []
   -- a refused SET in between changes nothing
@@ -59,10 +68,10 @@ pub record Worked : Type 0 where
       ≡ accepted ∷ accepted ∷ opened 28 ∷ refused 7 ∷ refused 7 ∷ refused 7 ∷ []
   -- a tariff put over a draft; before the first sheet OPEN is 10, at an empty place 9
   pub put-over : answersTo (PUT 1 high ∷ OPEN 1 ∷ OPEN 2 ∷ SET quarter ∷ OPEN 1 ∷ PUT 1 low ∷ OPEN 1 ∷ [])
-      ≡ accepted ∷ refused 10 ∷ refused 9 ∷ accepted ∷ over firstOther (0 ∷ 0 ∷ 0 ∷ []) (pos 133200000) ∷ accepted ∷ opened 28 ∷ []
+      ≡ accepted ∷ refused 10 ∷ refused 9 ∷ accepted ∷ over firstOther (0 ∷ 0 ∷ 0 ∷ []) (pos 1332000000) ∷ accepted ∷ opened 28 ∷ []
   -- QUOTE of the tiered tariff for 300 kWh in one month: its charge is below the maximum
   pub quoted : quoteOf (bookOf (SET quarter ∷ PUT 7 steep ∷ [])) 7 0 1 (300 ∷ 0 ∷ 0 ∷ [])
-      ≡ quotation (record { charge = 24624000000000; maximum = 27970470000000 })
+      ≡ quotation (record { charge = 246240000000000; maximum = 279704700000000 })
   -- the tiered tariff, refused at 100, 100, 100; then dropped, and the place is empty
   pub tiers : answersTo (SET quarter ∷ PUT 7 steep ∷ OPEN 7 ∷ DROP 7 ∷ OPEN 7 ∷ [])
-      ≡ accepted ∷ accepted ∷ over firstOther (100 ∷ 100 ∷ 100 ∷ []) (pos 253530000000) ∷ accepted ∷ refused 9 ∷ []
+      ≡ accepted ∷ accepted ∷ over firstOther (100 ∷ 100 ∷ 100 ∷ []) (pos 2535300000000) ∷ accepted ∷ refused 9 ∷ []

@@ -1,7 +1,7 @@
 //! The book: a cost sheet, or none, and 32 places.
 
 use crate::sheet::{Breach, Sheet, SheetError, METHODS, REGIONS};
-use crate::tariff::{Tariff, MONTH_LIMIT};
+use crate::tariff::{Tariff, MONTH_LIMIT, WHOLE};
 
 /// Places in the book; their codes are 1 to 32.
 pub const PLACES: usize = 32;
@@ -76,7 +76,7 @@ pub struct Maximum {
     pub denominator: u32,
 }
 
-/// A charge and its maximum, both 1,200 x m times the mills.
+/// A charge and its maximum, both 12,000 x m times the mills.
 #[derive(Clone, Copy, Debug, PartialEq, Eq)]
 pub struct Quote {
     pub charge: u64,
@@ -260,13 +260,15 @@ impl Book {
             return Err(Refusal::Argument);
         }
         let arrangement = tariff.arrangement();
-        let standing = 100 * u64::from(tariff.standing()) * u64::from(sheet.days);
-        let units: u64 = months.iter().map(|&kwh| tariff.month_charge(kwh)).sum();
+        let whole = u64::from(WHOLE);
+        let standing = whole * u64::from(tariff.standing()) * u64::from(sheet.days);
+        let tiers = tariff.tiers(sheet.peak_share);
+        let units: u64 = months.iter().map(|&kwh| tiers.month_charge(kwh)).sum();
         let total = months.iter().map(|&kwh| u64::from(kwh)).sum();
         let maximum = sheet.maximum(region as usize, arrangement, method as usize, total);
         Ok(Quote {
             charge: 12 * u64::from(sheet.m(arrangement)) * (standing + units),
-            maximum: 100 * maximum,
+            maximum: whole * maximum,
         })
     }
 

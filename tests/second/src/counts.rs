@@ -8,7 +8,7 @@ use crate::book::{Book, NotOpened, State, PLACES};
 use crate::period_days;
 use crate::sheet::{field_range, field_value, FIELDS};
 use crate::tally::Tally;
-use crate::tariff::{MONTH_LIMIT, RECORD};
+use crate::tariff::{MONTH_LIMIT, RECORD, WHOLE};
 use savings::is_saving;
 use trials::Tried;
 
@@ -17,13 +17,18 @@ pub struct Counts {
     pub tally: Tally,
     /// The period in force, as the calls so far have it.
     period: Option<[u32; 3]>,
-    /// The key of the sheet in force and its period, and that of its fields alone.
+    /// The key of the sheet in force and its period.
     in_force: u64,
-    fields_in_force: u64,
+    /// The fields of the sheet in force.
+    fields: Vec<u32>,
     /// The sheet in force has an SMNCC below zero.
     saving: bool,
     /// The last trial, as long as no call has changed the book since.
     tried: Option<Tried>,
+    /// The set of codes that fell by the last SET, if the peak share alone was another.
+    fell_by_share: u32,
+    /// Books with the sheet in force at other peak shares, made as they are needed.
+    at_shares: Vec<(u32, Book)>,
     records: [[u32; RECORD]; PLACES],
     used: [bool; PLACES],
     open: [bool; PLACES],
@@ -40,9 +45,11 @@ impl Default for Counts {
             tally: Tally::default(),
             period: None,
             in_force: 0,
-            fields_in_force: 0,
+            fields: Vec::new(),
             saving: false,
             tried: None,
+            fell_by_share: 0,
+            at_shares: Vec::new(),
             records: [[0; RECORD]; PLACES],
             used: [false; PLACES],
             open: [false; PLACES],
@@ -63,6 +70,7 @@ macro_rules! count {
 }
 
 mod savings;
+mod splits;
 mod trials;
 
 impl Counts {
@@ -71,6 +79,8 @@ impl Counts {
         self.period = None;
         self.saving = false;
         self.tried = None;
+        self.fell_by_share = 0;
+        self.at_shares.clear();
         self.used = [false; PLACES];
         self.open = [false; PLACES];
     }
@@ -133,8 +143,11 @@ impl Counts {
         let refusal = if ok { 0 } else { values[0] };
         self.after_trial(call, &numbers, refusal);
         self.under_a_saving(call, refusal, &values);
+        self.under_another_split(call, refusal);
+        self.after_another_peak_share(call, &numbers, refusal);
         if ["set", "trial"].contains(&call) {
             self.smncc(call, &numbers[3..], refusal);
+            self.peak_share(call, &numbers, refusal);
         }
         match call {
             "set" => self.set(&numbers, refusal, book),
@@ -167,8 +180,17 @@ impl Counts {
         if self.period.is_some() && self.in_force == submitted {
             self.tally.one("set of the sheet in force");
         }
+        let still_open = |place: usize| book.state(place as u32 + 1) == Some(State::Open);
+        self.fell_by_share = 0;
+        if self.peak_share_alone(numbers) {
+            let fallen = (0..PLACES).filter(|&place| self.open[place] && !still_open(place));
+            self.fell_by_share = fallen.map(|place| 1 << place).sum();
+            self.another_peak_share("set", numbers, self.fell_by_share);
+        }
         self.in_force = submitted;
-        self.fields_in_force = key(&numbers[3..]);
+        self.fields.clear();
+        self.fields.extend(&numbers[3..]);
+        self.at_shares.clear();
         self.saving = is_saving(&numbers[3..]);
         self.accepted_sheet([numbers[0], numbers[1], numbers[2]], &numbers[3..], book);
     }
@@ -315,18 +337,21 @@ impl Counts {
                     self.tally.one("put: steps side by side");
                 }
             }
-            3 => {
+            2 => self.put_economy_7(&record),
+            _ => {
                 if steps[..n].contains(&0) {
                     self.tally.one("put: kind 3 with a share of 0");
                 }
-                if let Some(place) = steps[..n].iter().position(|&share| share == 100) {
+                if steps[..n].iter().any(|share| share % 10 > 0) {
+                    self.tally.one("put: kind 3 with tenths of a percent");
+                }
+                if let Some(place) = steps[..n].iter().position(|&share| share == WHOLE) {
                     count!(
                         self,
-                        "put: kind 3 with a share of 100 in place {place} of {n}"
+                        "put: kind 3 with a share of 1,000 in place {place} of {n}"
                     );
                 }
             }
-            _ => {}
         }
         match record[2] {
             0 => self.tally.one("put: standing charge of 0"),
@@ -353,6 +378,9 @@ impl Counts {
                 self.tally.different("codes opened", numbers[0].into());
                 self.tally.different("numbers of cells opened", values[0]);
                 self.shape("opened", &record);
+                if record[0] == 2 {
+                    self.opened_economy_7(&record, false);
+                }
                 if [1, 28].contains(&values[0]) {
                     count!(self, "opened with cells: {}", values[0]);
                 }
@@ -363,6 +391,9 @@ impl Counts {
                     panic!("an answer 11 has months");
                 };
                 self.shape("11", &record);
+                if record[0] == 2 {
+                    self.opened_economy_7(&record, true);
+                }
                 let cell = 2 * region + method;
                 self.tally
                     .different("cells that were the first over the cap", cell);
@@ -380,6 +411,9 @@ impl Counts {
                 }
                 if excess > 1 << 53 {
                     self.tally.one("11 with an excess above 2^53");
+                }
+                if excess > 1 << 62 {
+                    self.tally.one("11 with an excess above 2^62");
                 }
             }
             _ => {}
@@ -436,6 +470,9 @@ impl Counts {
             0 => {
                 let record = self.records[place];
                 self.shape("quoted", &record);
+                if record[0] == 2 {
+                    self.quoted_economy_7(months, values);
+                }
                 self.tally.different("periods quoted in", key(&period));
                 let cell = 2 * region + method;
                 let cell = if record[0] == 1 { cell } else { 28 + cell };
@@ -454,8 +491,14 @@ impl Counts {
                 if values[0] > 1 << 53 {
                     self.tally.one("quoted charges above 2^53");
                 }
+                if values[0] > 1 << 62 {
+                    self.tally.one("quoted charges above 2^62");
+                }
                 if values[1] > 1 << 53 {
                     self.tally.one("quoted maximums above 2^53");
+                }
+                if values[1] > 1 << 61 {
+                    self.tally.one("quoted maximums above 2^61");
                 }
             }
             13 => {

@@ -26,6 +26,6 @@ pub use book::{Book, Maximum, NotOpened, Quote, Refusal, State, PLACES};
 pub use calendar::period_days;
 pub use sheet::{
     common_sums, field_range, field_value, operating_costs, Breach, SheetError, COMMON_FIELDS,
-    FIELDS, METHODS, REGIONS, SMNCC,
+    FIELDS, METHODS, PEAK_SHARE, REGIONS, SMNCC,
 };
-pub use tariff::{Tariff, MONTH_LIMIT, RECORD};
+pub use tariff::{Tariff, MONTH_LIMIT, RECORD, WHOLE};

@@ -9,20 +9,22 @@ mod noise;
 mod orders;
 mod savings;
 mod sheets;
+mod splits;
 mod tariffs;
 mod trials;
 
 pub use edges::all_periods;
 pub(crate) use savings::SMNCC_EDGES;
+pub(crate) use splits::{is_share_edge, DRAFTED};
 
 use crate::book::{Book, State};
 use crate::desk::LINE_LIMIT;
 use crate::random::Random;
 use crate::sheet::{
-    field_range, field_value, operating_costs, COMMON_FIELDS, FIELDS, REGIONS, SMNCC,
+    field_range, field_value, operating_costs, COMMON_FIELDS, FIELDS, PEAK_SHARE, REGIONS, SMNCC,
 };
 use crate::tally::Tally;
-use crate::tariff::{MONTH_LIMIT, RECORD};
+use crate::tariff::{MONTH_LIMIT, RECORD, WHOLE};
 use crate::{period_days, Breach, NotOpened, Refusal};
 
 const MONEY: u32 = 100_000_000;
@@ -42,7 +44,7 @@ struct Dated {
     fields: Vec<u32>,
 }
 
-/// The reference sheet of document 01.
+/// The reference sheet of document 01, with the drafted split of Economy 7.
 pub fn reference_fields() -> [u32; FIELDS] {
     let mut fields = [0; FIELDS];
     fields[0..4].copy_from_slice(&[0, 30_000_000, 0, 36_000_000]);
@@ -57,6 +59,7 @@ pub fn reference_fields() -> [u32; FIELDS] {
         pair.copy_from_slice(&[2_000_000, 12_000_000]);
     }
     fields[93..95].copy_from_slice(&[3_000, 4_000]);
+    fields[PEAK_SHARE] = DRAFTED;
     fields
 }
 
@@ -85,10 +88,11 @@ enum Turn {
     Fill,
     TwoFaults,
     FieldEnd,
+    Splits,
 }
 
 /// Turns of a random script, by weight.
-const TURNS: [(Turn, u64); 13] = [
+const TURNS: [(Turn, u64); 14] = [
     (Turn::Set, 34),
     (Turn::Trial, 24),
     (Turn::Put, 170),
@@ -102,6 +106,7 @@ const TURNS: [(Turn, u64); 13] = [
     (Turn::Fill, 1),
     (Turn::TwoFaults, 19),
     (Turn::FieldEnd, 3),
+    (Turn::Splits, 8),
 ];
 
 /// Turns of a speed script: one in a hundred is a sheet.
@@ -447,6 +452,7 @@ impl Writer {
             Turn::Fill => self.fill(),
             Turn::TwoFaults => self.two_faults(),
             Turn::FieldEnd => self.end_of_a_field(),
+            Turn::Splits => self.splits(),
             Turn::Benchmark | Turn::Maximum | Turn::Quote => {
                 if self.random.one_in(4) {
                     self.take_odd(turn);

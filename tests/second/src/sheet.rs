@@ -1,11 +1,11 @@
 //! The cost sheet: its ranges, the Benchmark Maximum Charges and the test of a tariff.
 
 use crate::calendar::period_days;
-use crate::tariff::Tariff;
+use crate::tariff::{Tariff, WHOLE};
 
 /// Numbers on a cost sheet.
-pub const FIELDS: usize = 95;
-/// The first of them, all but NC and m: those that the sums without a region are made of.
+pub const FIELDS: usize = 96;
+/// The first of them, up to SMNCC: those that the sums without a region are made of.
 pub const COMMON_FIELDS: usize = 37;
 /// Charge Restriction Regions, in the order of Annex 6.
 pub const REGIONS: usize = 14;
@@ -14,6 +14,8 @@ pub const METHODS: usize = 2;
 
 /// The smart meter net cost component, the one field that can be below zero.
 pub const SMNCC: usize = 36;
+/// The peak share of Economy 7, in tenths of a percent; the rest is off-peak.
+pub const PEAK_SHARE: usize = 95;
 
 const ARRANGEMENTS: usize = 2;
 const MONEY: i64 = 100_000_000;
@@ -56,6 +58,7 @@ pub fn field_range(field: usize) -> (i64, i64) {
         22..=28 => (1, 1_000_000_000),
         29..=35 => (0, 1_000_000_000),
         93..=94 => (1, 20_000),
+        PEAK_SHARE => (0, WHOLE.into()),
         _ => panic!("a cost sheet has no field {field}"),
     }
 }
@@ -90,7 +93,7 @@ impl Benchmark {
 pub struct Breach {
     pub region: u32,
     pub method: u32,
-    /// 1,200 x m x (charge - maximum).
+    /// 12,000 x m x (charge - maximum).
     pub excess: u64,
     t: u32,
     worst: [u32; 12],
@@ -108,6 +111,8 @@ impl Breach {
 pub(crate) struct Sheet {
     pub t: u32,
     pub days: u32,
+    /// Of Economy 7, in tenths of a percent.
+    pub peak_share: u32,
     m: [u32; ARRANGEMENTS],
     benchmarks: [[[Benchmark; METHODS]; REGIONS]; ARRANGEMENTS],
 }
@@ -183,7 +188,7 @@ impl Sheet {
         }
         let days = period_days(year, month, t).ok_or(SheetError::Period)?;
 
-        let common = fields.first_chunk().expect("95 fields are more than 37");
+        let common = fields.first_chunk().expect("96 fields are more than 37");
         let sums = common_sums(common)?;
 
         let mut benchmarks = [[[Benchmark::default(); METHODS]; REGIONS]; ARRANGEMENTS];
@@ -208,6 +213,7 @@ impl Sheet {
         Ok(Sheet {
             t,
             days,
+            peak_share: fields[PEAK_SHARE],
             m: [fields[M], fields[M + 1]],
             benchmarks,
         })
@@ -230,10 +236,10 @@ impl Sheet {
 
     /// The first cell, by region and then by method, in which the tariff exceeds.
     ///
-    /// With the charge taken in hundredths of a mill, the excess of a list of months is
+    /// With the charge taken in thousandths of a mill, the excess of a list of months is
     ///
-    /// 12 x m x 100 x standing x days - 100 x N x t x m
-    ///     + 12 x the sum over the months of (m x charge - 100 x (M - N) x kWh).
+    /// 12 x m x 1,000 x standing x days - 1,000 x N x t x m
+    ///     + 12 x the sum over the months of (m x charge - 1,000 x (M - N) x kWh).
     ///
     /// The months stand in it apart from each other, so the greatest excess has the worst
     /// kWh in each. A month's part is a straight line within each tier: its greatest value
@@ -241,24 +247,25 @@ impl Sheet {
     /// 0 and the ends of the tiers (the last one ends at 10,000) are all that need be looked
     /// at, and a later end is worse only if it is strictly so.
     ///
-    /// Nothing here is above 6 x 10^17.
+    /// Nothing here is above 6 x 10^18, or as far below zero; 9.2 x 10^18 would fit.
     pub fn first_breach(&self, tariff: &Tariff) -> Option<Breach> {
         let arrangement = tariff.arrangement();
         let m = i64::from(self.m[arrangement]);
         let t = i64::from(self.t);
-        let fixed = 1_200 * m * i64::from(tariff.standing()) * i64::from(self.days);
-        let per_nil = 100 * t * m;
+        let whole = i64::from(WHOLE);
+        let fixed = 12 * whole * m * i64::from(tariff.standing()) * i64::from(self.days);
+        let per_nil = whole * t * m;
 
         let mut ends = [(0, 0, 0); 4];
-        let tiers = tariff.tiers();
-        for (end, tier) in ends.iter_mut().zip(tiers) {
+        let tiers = tariff.tiers(self.peak_share);
+        for (end, tier) in ends.iter_mut().zip(tiers.list()) {
             *end = (
                 tier.end,
                 m * tier.charge_at_end as i64,
-                100 * i64::from(tier.end),
+                whole * i64::from(tier.end),
             );
         }
-        let ends = &ends[..tiers.len()];
+        let ends = &ends[..tiers.list().len()];
 
         for (region, methods) in self.benchmarks[arrangement].iter().enumerate() {
             if !tariff.offers_region(region as u32) {
@@ -270,8 +277,8 @@ impl Sheet {
                 }
                 let rise = i64::from(benchmark.rise());
                 let (mut worst, mut most) = (0, 0);
-                for &(kwh, charge, hundred_kwh) in ends {
-                    let share = charge - rise * hundred_kwh;
+                for &(kwh, charge, thousand_kwh) in ends {
+                    let share = charge - rise * thousand_kwh;
                     if share > most {
                         (worst, most) = (kwh, share);
                     }

@@ -1,40 +1,103 @@
 //! A tariff record and its charge.
 
+use std::borrow::Cow;
+
 use crate::sheet::{METHODS, REGIONS};
 
 /// Numbers in a tariff record.
 pub const RECORD: usize = 13;
 /// The most a customer uses in a month, in kWh.
 pub const MONTH_LIMIT: u32 = 10_000;
+/// The whole of a consumption in tenths of a percent: what its shares add up to. Rates and
+/// charges are kept in this part of a mill, so that no weighted rate is rounded.
+pub const WHOLE: u32 = 1_000;
 
 const STANDING_LIMIT: u32 = 1_000_000;
 const RATE_LIMIT: u32 = 200_000;
-const PEAK_PERCENT: u32 = 58;
-const OFF_PEAK_PERCENT: u32 = 42;
 
 /// A stretch of a month's consumption at one rate.
 #[derive(Clone, Copy, Debug, Default, PartialEq, Eq)]
 pub(crate) struct Tier {
     /// The last kWh of the tier.
     pub end: u32,
-    /// Hundredths of a mill per kWh.
+    /// Thousandths of a mill per kWh.
     pub rate: u32,
-    /// The charge for a month of `end` kWh, in hundredths of a mill.
+    /// The charge for a month of `end` kWh, in thousandths of a mill.
     pub charge_at_end: u64,
+}
+
+/// The tiers of a month's consumption, the last of which ends at 10,000 kWh.
+#[derive(Clone, Copy, Debug, Default, PartialEq, Eq)]
+pub(crate) struct Tiers {
+    count: usize,
+    tiers: [Tier; 4],
+}
+
+impl Tiers {
+    /// One rate for all of it.
+    fn flat(rate: u32) -> Tiers {
+        let mut tiers = Tiers::default();
+        tiers.add(MONTH_LIMIT, rate);
+        tiers
+    }
+
+    fn add(&mut self, end: u32, rate: u32) {
+        let (start, charge) = match self.list().last() {
+            Some(before) => (before.end, before.charge_at_end),
+            None => (0, 0),
+        };
+        self.tiers[self.count] = Tier {
+            end,
+            rate,
+            charge_at_end: charge + u64::from(rate) * u64::from(end - start),
+        };
+        self.count += 1;
+    }
+
+    pub fn list(&self) -> &[Tier] {
+        &self.tiers[..self.count]
+    }
+
+    /// The charge for the kWh of one month, without the standing charge, in thousandths
+    /// of a mill. A month has at most 10,000 kWh.
+    pub fn month_charge(&self, kwh: u32) -> u64 {
+        let (mut start, mut charge) = (0, 0);
+        for tier in self.list() {
+            if kwh <= tier.end {
+                return charge + u64::from(tier.rate) * u64::from(kwh - start);
+            }
+            (start, charge) = (tier.end, tier.charge_at_end);
+        }
+        charge
+    }
+}
+
+/// What a consumption costs.
+#[derive(Clone, Copy, Debug, PartialEq, Eq)]
+enum Units {
+    /// The same under every sheet: kind 1, and kind 3 with its weighted rate.
+    Tiers(Tiers),
+    /// Kind 2: the peak and the off-peak rate, which the sheet's split weights.
+    Economy7([u32; 2]),
 }
 
 /// A tariff of one of the three kinds.
 ///
-/// A multi-register tariff is charged by its weighted rate, that is as one tier; the
-/// weights are percentages, so rates are kept in hundredths of a mill.
+/// A multi-register tariff is charged by its weighted rate, that is as one tier.
 #[derive(Clone, Copy, Debug, PartialEq, Eq)]
 pub struct Tariff {
-    economy_7: bool,
+    arrangement: usize,
     regions: u32,
     methods: u32,
     standing: u32,
-    count: usize,
-    tiers: [Tier; 4],
+    units: Units,
+}
+
+/// The rate of a consumption of which each share is at its own rate, in thousandths of a mill
+/// per kWh. The shares add up to the whole.
+fn weighted(rates: &[u32], shares: &[u32]) -> u32 {
+    let products = rates.iter().zip(shares).map(|(rate, share)| rate * share);
+    products.sum()
 }
 
 impl Tariff {
@@ -73,64 +136,51 @@ impl Tariff {
             return None;
         }
 
-        let mut tariff = Tariff {
-            economy_7: kind != 1,
-            regions,
-            methods,
-            standing,
-            count: 0,
-            tiers: [Tier::default(); 4],
-        };
-        match kind {
+        let units = match kind {
             1 => {
+                let mut tiers = Tiers::default();
                 let mut start = 0;
                 for (&rate, &step) in rates.iter().zip(steps) {
                     if step <= start || step >= MONTH_LIMIT {
                         return None;
                     }
-                    tariff.add_tier(step, 100 * rate);
+                    tiers.add(step, WHOLE * rate);
                     start = step;
                 }
-                tariff.add_tier(MONTH_LIMIT, 100 * rates[n - 1]);
+                tiers.add(MONTH_LIMIT, WHOLE * rates[n - 1]);
+                Units::Tiers(tiers)
             }
-            2 => {
-                let weighted = PEAK_PERCENT * rates[0] + OFF_PEAK_PERCENT * rates[1];
-                tariff.add_tier(MONTH_LIMIT, weighted);
-            }
+            2 => Units::Economy7([rates[0], rates[1]]),
             _ => {
-                if steps.iter().any(|&percent| percent > 100) || steps.iter().sum::<u32>() != 100 {
+                if steps.iter().any(|&share| share > WHOLE) || steps.iter().sum::<u32>() != WHOLE {
                     return None;
                 }
-                let weighted = rates
-                    .iter()
-                    .zip(steps)
-                    .map(|(rate, percent)| rate * percent);
-                tariff.add_tier(MONTH_LIMIT, weighted.sum());
+                Units::Tiers(Tiers::flat(weighted(rates, steps)))
+            }
+        };
+        Some(Tariff {
+            arrangement: usize::from(kind != 1),
+            regions,
+            methods,
+            standing,
+            units,
+        })
+    }
+
+    /// The tiers under a sheet with this peak share of Economy 7.
+    pub(crate) fn tiers(&self, peak_share: u32) -> Cow<'_, Tiers> {
+        match &self.units {
+            Units::Tiers(tiers) => Cow::Borrowed(tiers),
+            Units::Economy7(rates) => {
+                let shares = [peak_share, WHOLE - peak_share];
+                Cow::Owned(Tiers::flat(weighted(rates, &shares)))
             }
         }
-        Some(tariff)
-    }
-
-    fn add_tier(&mut self, end: u32, rate: u32) {
-        let (start, charge) = match self.tiers().last() {
-            Some(before) => (before.end, before.charge_at_end),
-            None => (0, 0),
-        };
-        self.tiers[self.count] = Tier {
-            end,
-            rate,
-            charge_at_end: charge + u64::from(rate) * u64::from(end - start),
-        };
-        self.count += 1;
-    }
-
-    pub(crate) fn tiers(&self) -> &[Tier] {
-        &self.tiers[..self.count]
     }
 
     /// 0 for single-rate, 1 for Economy 7 (28AD.3, 28AD.4).
     pub fn arrangement(&self) -> usize {
-        usize::from(self.economy_7)
+        self.arrangement
     }
 
     /// The standing charge per day, in mills.
@@ -149,18 +199,5 @@ impl Tariff {
     /// Offered regions times offered methods.
     pub fn cells(&self) -> u32 {
         self.regions.count_ones() * self.methods.count_ones()
-    }
-
-    /// The charge for the kWh of one month, without the standing charge, in hundredths
-    /// of a mill. A month has at most 10,000 kWh.
-    pub fn month_charge(&self, kwh: u32) -> u64 {
-        let (mut start, mut charge) = (0, 0);
-        for tier in self.tiers() {
-            if kwh <= tier.end {
-                return charge + u64::from(tier.rate) * u64::from(kwh - start);
-            }
-            (start, charge) = (tier.end, tier.charge_at_end);
-        }
-        charge
     }
 }

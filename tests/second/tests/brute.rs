@@ -9,26 +9,29 @@ use second::{period_days, Book, NotOpened};
 /// A tariff as its record says, charged without any shortcut.
 struct Plain {
     record: [u32; 13],
-    /// 100 x the charge for each kWh count of one month, standing charge apart.
+    /// 1,000 x the charge for each kWh count of one month, standing charge apart.
     by_kwh: Vec<i128>,
 }
 
 impl Plain {
-    fn new(record: [u32; 13]) -> Plain {
+    fn new(record: [u32; 13], sheet: &[u32]) -> Plain {
         let n = record[1] as usize;
         let mut by_kwh = vec![0];
         for kwh in 1..=10_000u32 {
-            let hundredths: i128 = match record[0] {
+            let thousandths: i128 = match record[0] {
                 1 => {
                     let tier = (0..n - 1).take_while(|&i| kwh > record[9 + i]).count();
-                    100 * i128::from(record[5 + tier])
+                    1_000 * i128::from(record[5 + tier])
                 }
-                2 => 58 * i128::from(record[5]) + 42 * i128::from(record[6]),
+                2 => {
+                    let peak = i128::from(sheet[95]);
+                    peak * i128::from(record[5]) + (1_000 - peak) * i128::from(record[6])
+                }
                 _ => (0..n)
                     .map(|i| i128::from(record[5 + i]) * i128::from(record[9 + i]))
                     .sum(),
             };
-            by_kwh.push(by_kwh[by_kwh.len() - 1] + hundredths);
+            by_kwh.push(by_kwh[by_kwh.len() - 1] + thousandths);
         }
         Plain { record, by_kwh }
     }
@@ -43,20 +46,20 @@ struct Cell {
 }
 
 impl Cell {
-    /// 1,200 x m x (charge - maximum), straight from the definition.
+    /// 12,000 x m x (charge - maximum), straight from the definition.
     fn excess(&self, plain: &Plain, months: &[u32]) -> i128 {
-        let charge = 100 * i128::from(plain.record[2]) * self.days
+        let charge = 1_000 * i128::from(plain.record[2]) * self.days
             + months
                 .iter()
                 .map(|&kwh| plain.by_kwh[kwh as usize])
                 .sum::<i128>();
         let total: i128 = months.iter().map(|&kwh| i128::from(kwh)).sum();
         let maximum = self.nil * self.t as i128 * self.m + 12 * self.rise * total;
-        12 * self.m * charge - 100 * maximum
+        12 * self.m * charge - 1_000 * maximum
     }
 
     fn share(&self, plain: &Plain, kwh: usize) -> i128 {
-        12 * self.m * plain.by_kwh[kwh] - 1_200 * self.rise * kwh as i128
+        12 * self.m * plain.by_kwh[kwh] - 12_000 * self.rise * kwh as i128
     }
 }
 
@@ -85,6 +88,11 @@ fn random_sheet(random: &mut Random) -> (u32, u32, u32, Vec<u32>) {
     }
     if random.one_in(3) {
         sheet[18 + random.index(2)] = random.between(0, 30_000);
+    }
+    if random.one_in(2) {
+        sheet[95] = random.pick(&[0, 1, 579, 581, 1_000]);
+    } else if random.one_in(2) {
+        sheet[95] = random.between(0, 1_000);
     }
     (
         random.between(2018, 2099),
@@ -133,7 +141,7 @@ fn random_record(random: &mut Random, book: &Book, days: u32, t: u32, sheet: &[u
         steps.sort_unstable();
         record[9..9 + steps.len()].copy_from_slice(&steps);
     } else if kind == 3 {
-        let mut left = 100;
+        let mut left = 1_000;
         for i in 0..n as usize - 1 {
             record[9 + i] = random.between(0, left);
             left -= record[9 + i];
@@ -173,7 +181,7 @@ fn no_list_of_months_contradicts_open() {
             let record = random_record(&mut random, &book, days, t, &sheet);
             book.put(1, &record).unwrap();
             let answer = book.open(1);
-            let plain = Plain::new(record);
+            let plain = Plain::new(record, &sheet);
             let arrangement = u32::from(record[0] != 1);
 
             let mut first = None;
@@ -281,6 +289,11 @@ fn set_and_trial_judge_as_open_does() {
             let less = random.between(0, less).min(next[pair]);
             next[pair] -= less;
             next[pair + 1] -= less;
+        }
+        if random.one_in(4) {
+            // The split alone.
+            next = sheet.clone();
+            next[95] = random.between(0, 1_000);
         }
         let mut after = book.clone();
         if after.set(year, month, t, &next).is_err() {

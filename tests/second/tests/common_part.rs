@@ -84,7 +84,7 @@ fn sheet_u() -> Vec<u32> {
             12_500_000 + 40_039 * region,
         ]);
     }
-    sheet.extend([3_100, 4_200]);
+    sheet.extend([3_100, 4_200, 583]);
     sheet
 }
 
@@ -203,7 +203,7 @@ fn random_common(random: &mut Random) -> Vec<u32> {
     fields
 }
 
-/// Fields 37 to 94. Network costs rise from nil to m, on some sheets by much in all regions.
+/// Fields 37 to 95. Network costs rise from nil to m, on some sheets by much in all regions.
 fn random_rest(random: &mut Random) -> Vec<u32> {
     let mut fields = Vec::new();
     let rise = random.any_size(30_000_000);
@@ -212,6 +212,7 @@ fn random_rest(random: &mut Random) -> Vec<u32> {
         fields.extend([nil, nil + rise + random.between(0, 30_000_000)]);
     }
     fields.extend([random.between(1, 20_000), random.between(1, 20_000)]);
+    fields.push(random.between(0, 1_000));
     fields
 }
 

@@ -39,8 +39,8 @@ fn answers() {
          ok 64469500\n\
          ok 279704700000 36000\n\
          ok\n\
-         refused 11 0 1 253530000000 100 100 100\n\
-         ok 24624000000000 27970470000000\n\
+         refused 11 0 1 2535300000000 100 100 100\n\
+         ok 246240000000000 279704700000000\n\
          ok\n\
          ok 28\nrefused 7\nok\nrefused 12\nok\nrefused 9\n\
          refused 8\nrefused 6\nrefused 1\nrefused 13\nrefused 13\n"
@@ -70,11 +70,11 @@ fn answers_of_trial() {
         run(input.as_bytes()),
         "ok 0\nrefused 9\nrefused 10\n\
          ok\nok\nok 28\nok\nok 28\n\
-         ok 1\nrefused 7\nok 7935552000000 7935750000000\nok\n\
+         ok 1\nrefused 7\nok 79355520000000 79357500000000\nok\n\
          ok 0\nok 28\nok\nok 28\n\
          ok 2147483649\nok 0\nrefused 3\n\
          refused 1\nrefused 1\nrefused 1\n\
-         ok\nrefused 11 0 1 28686000000 0\nok\nrefused 12\n"
+         ok\nrefused 11 0 1 286860000000 0\nok\nrefused 12\n"
     );
 }
 

@@ -1,4 +1,5 @@
-//! Document 01's own figures and rules, its numbers written out by hand.
+//! Document 01's own figures and rules, its numbers written out by hand. Excesses and quotes are ten
+//! times as large as there, since document 02 (M-103) has them over 12,000 x m.
 
 mod common;
 
@@ -69,7 +70,7 @@ fn one_rate_within_the_cap_opens_28_cells() {
 fn one_mill_a_day_more_is_over() {
     let mut book = reference_book();
     book.put(3, &tariff(1, 23_961, &[18_000], &[])).unwrap();
-    assert_over(book.open(3), (0, 1), &[0, 0, 0], 133_200_000);
+    assert_over(book.open(3), (0, 1), &[0, 0, 0], 1_332_000_000);
     assert_eq!(book.state(3), Some(State::Draft));
 }
 
@@ -78,17 +79,17 @@ fn the_tiered_surprise() {
     let mut book = reference_book();
     book.put(4, &tariff(1, 20_000, &[20_000, 15_000], &[100]))
         .unwrap();
-    assert_over(book.open(4), (0, 1), &[100, 100, 100], 253_530_000_000);
+    assert_over(book.open(4), (0, 1), &[100, 100, 100], 2_535_300_000_000);
     let spread = book.quote(4, 0, 1, &[100, 100, 100]).unwrap();
-    assert_eq!(spread.charge - spread.maximum, 253_530_000_000);
+    assert_eq!(spread.charge - spread.maximum, 2_535_300_000_000);
     // The same 300 kWh in one month is below the cap.
     for months in [[300, 0, 0], [0, 300, 0], [0, 0, 300]] {
         let quote = book.quote(4, 0, 1, &months).unwrap();
         assert_eq!(quote.maximum, spread.maximum);
         assert!(quote.charge < quote.maximum);
         // 1,840,000 + 2,000,000 + 3,000,000 mills against 7,769,575.
-        assert_eq!(quote.charge, 6_840_000 * 3_600_000);
-        assert_eq!(quote.maximum, 7_769_575 * 3_600_000);
+        assert_eq!(quote.charge, 6_840_000 * 36_000_000);
+        assert_eq!(quote.maximum, 7_769_575 * 36_000_000);
     }
 }
 
@@ -100,7 +101,7 @@ fn a_steep_first_step() {
     let quote = book.quote(5, 0, 1, &[5, 5, 5]).unwrap();
     assert_eq!(quote.charge, quote.maximum);
     book.put(6, &tariff(1, 0, &[165_510, 0], &[5])).unwrap();
-    assert_over(book.open(6), (0, 1), &[5, 5, 5], 54_000_000);
+    assert_over(book.open(6), (0, 1), &[5, 5, 5], 540_000_000);
 }
 
 #[test]
@@ -112,10 +113,10 @@ fn economy_7_over_at_the_top() {
         book.open(7),
         (0, 1),
         &[10_000, 10_000, 10_000],
-        367_800_000_000,
+        3_678_000_000_000,
     );
     let quote = book.quote(7, 0, 1, &[10_000; 3]).unwrap();
-    assert_eq!(quote.charge - quote.maximum, 367_800_000_000);
+    assert_eq!(quote.charge - quote.maximum, 3_678_000_000_000);
 }
 
 #[test]
@@ -156,12 +157,12 @@ fn open_twice_is_7() {
 }
 
 #[test]
-fn percentages_summing_to_99_are_8() {
+fn shares_summing_to_999_are_8() {
     let mut book = reference_book();
     let rates = [18_000, 12_000];
-    assert_eq!(number(book.put(1, &tariff(3, 0, &rates, &[57, 42]))), 8);
-    assert_eq!(number(book.put(1, &tariff(3, 0, &rates, &[58, 43]))), 8);
-    assert_eq!(number(book.put(1, &tariff(3, 0, &rates, &[58, 42]))), 0);
+    assert_eq!(number(book.put(1, &tariff(3, 0, &rates, &[579, 420]))), 8);
+    assert_eq!(number(book.put(1, &tariff(3, 0, &rates, &[580, 421]))), 8);
+    assert_eq!(number(book.put(1, &tariff(3, 0, &rates, &[580, 420]))), 0);
 }
 
 // The traps.
@@ -176,15 +177,15 @@ fn trap_days_over_365() {
 
 #[test]
 fn trap_economy_7_at_50_50() {
-    // At 58:42 the weighted rate is 15,585.00 against 15,579.5; at 50:50 it would be 15,125.
+    // At 58:42 the weighted rate is 15,585 against 15,579.5; at 50:50 it would be 15,125.
     let mut book = reference_book();
     book.put(1, &tariff(2, 0, &[18_000, 12_250], &[])).unwrap();
     let quote = book.quote(1, 0, 1, &[1, 0, 0]).unwrap();
-    assert_eq!(quote.charge, 15_585 * 1_200 * 4_000);
-    book.put(2, &tariff(3, 0, &[18_000, 12_250], &[50, 50]))
+    assert_eq!(quote.charge, 15_585 * 12_000 * 4_000);
+    book.put(2, &tariff(3, 0, &[18_000, 12_250], &[500, 500]))
         .unwrap();
     let quote = book.quote(2, 0, 1, &[1, 0, 0]).unwrap();
-    assert_eq!(quote.charge, 15_125 * 1_200 * 4_000);
+    assert_eq!(quote.charge, 15_125 * 12_000 * 4_000);
 }
 
 #[test]
@@ -205,7 +206,7 @@ fn trap_maximum_rounded() {
     // 51,450,000 + 514,500 + 12,000,000 = 63,964,500, over 3,000 kWh 21,321.5 mills each.
     assert_eq!(book.benchmark(0, 0, 1, 1), Ok(63_964_500));
     book.put(1, &tariff(1, 0, &[21_322, 0], &[1])).unwrap();
-    assert_over(book.open(1), (0, 1), &[1, 1, 1], 3 * 1_200 * 3_000 / 2);
+    assert_over(book.open(1), (0, 1), &[1, 1, 1], 3 * 12_000 * 3_000 / 2);
     book.put(1, &tariff(1, 0, &[21_321], &[])).unwrap();
     assert_eq!(book.open(1), Ok(28));
 }
@@ -213,14 +214,14 @@ fn trap_maximum_rounded() {
 #[test]
 fn trap_network_cost_in_headroom() {
     // Headroom and the adjustment one after the other: network costs get the second only.
-    let mut sheet = vec![0; 95];
+    let mut sheet = vec![0; 96];
     sheet[22..36].fill(1);
     sheet[16..18].fill(500_000);
     sheet[18..20].copy_from_slice(&[100_000, 0]);
     for pair in (37..93).step_by(2) {
         sheet[pair + 1] = 1_000;
     }
-    sheet[93..].fill(1);
+    sheet[93..95].fill(1);
     let mut book = Book::new();
     book.set(2018, 1, 1, &sheet).unwrap();
     assert_eq!(book.benchmark(0, 0, 0, 1), Ok(1_100));
@@ -256,7 +257,7 @@ fn a_sheet_of_different_values() {
             13_000_000 + 40_031 * region,
         ]);
     }
-    sheet.extend([3_100, 4_200]);
+    sheet.extend([3_100, 4_200, 583]);
     let mut book = Book::new();
     book.set(2020, 1, 2, &sheet).unwrap();
 
@@ -303,7 +304,7 @@ fn a_sheet_of_different_values() {
 
 #[test]
 fn the_range_of_each_field() {
-    for field in 0..95 {
+    for field in 0..96 {
         let (lowest, highest) = match field {
             0..=15 => (0, 100_000_000),
             16..=19 => (0, 1_000_000),
@@ -313,7 +314,9 @@ fn the_range_of_each_field() {
             // Document 02, M-102.
             36 => (-100_000_000, 100_000_000),
             37..=92 => (0, 100_000_000),
-            _ => (1, 20_000),
+            93 | 94 => (1, 20_000),
+            // M-103.
+            _ => (0, 1_000),
         };
         assert_eq!(field_range(field), (lowest, highest));
         let mut sheet = reference();
@@ -350,7 +353,7 @@ fn the_checks_of_set_in_their_order() {
     long.push(0);
     assert_eq!(number(book.set(0, 0, 0, &long)), 1);
     assert_eq!(number(book.set(0, 0, 0, &[])), 1);
-    assert_eq!(number(book.set(2023, 10, 3, &good[..94])), 1);
+    assert_eq!(number(book.set(2023, 10, 3, &good[..95])), 1);
     assert_eq!(number(book.set(0, 10, 3, &field)), 2);
     let mut both = term.clone();
     both[37] = 100_000_000;
@@ -377,12 +380,12 @@ fn each_indexed_term_to_its_limit() {
     for (baseline, index) in terms {
         count += 1;
         // All costs 0 but this one; network costs keep m above nil.
-        let mut sheet = vec![0; 95];
+        let mut sheet = vec![0; 96];
         sheet[22..36].fill(1);
         for pair in (37..93).step_by(2) {
             sheet[pair + 1] = 100_000_000;
         }
-        sheet[93..].fill(1);
+        sheet[93..95].fill(1);
         for (value, current, initial, expected) in [
             (100_000_000, 1, 1, 0),
             (1, 100_000_000, 1, 0),
@@ -423,9 +426,9 @@ fn smncc_is_no_indexed_term() {
 fn m_may_equal_nil_and_not_fall_below() {
     for region in 0..14 {
         for arrangement in 0..2 {
-            let mut sheet = vec![0; 95];
+            let mut sheet = vec![0; 96];
             sheet[22..36].fill(1);
-            sheet[93..].fill(1);
+            sheet[93..95].fill(1);
             sheet[37..93].fill(5);
             assert_eq!(set(&sheet), 0);
             sheet[37 + 4 * region + 2 * arrangement] = 6;
@@ -436,9 +439,9 @@ fn m_may_equal_nil_and_not_fall_below() {
     }
     // By one method only. At nil a network cost of 3; at m one of 2 and a policy cost of 1,
     // so that the payment method adjustment is rounded once at nil and twice at m.
-    let mut sheet = vec![0; 95];
+    let mut sheet = vec![0; 96];
     sheet[22..36].fill(1);
-    sheet[93..].fill(1);
+    sheet[93..95].fill(1);
     (sheet[37], sheet[38], sheet[9]) = (3, 2, 1);
     let by = |pap: [u32; 2]| {
         let mut sheet = sheet.clone();
@@ -456,9 +459,9 @@ fn m_may_equal_nil_and_not_fall_below() {
 
 #[test]
 fn halves_round_up() {
-    let mut sheet = vec![0; 95];
+    let mut sheet = vec![0; 96];
     sheet[22..36].fill(1);
-    sheet[93..].fill(1);
+    sheet[93..95].fill(1);
     // Direct fuel at m 5 / 2, 7 / 3 and 8 / 3.
     for (value, initial, expected) in [(5, 2, 3), (7, 3, 2), (8, 3, 3), (1, 2, 1), (1, 3, 0)] {
         sheet[1] = value;
@@ -471,10 +474,11 @@ fn halves_round_up() {
 
 #[test]
 fn the_greatest_benchmark_and_excess() {
-    let mut sheet = vec![100_000_000; 95];
+    let mut sheet = vec![100_000_000; 96];
     sheet[16..20].fill(1_000_000);
     sheet[22..36].fill(1_000_000_000);
-    sheet[93..].fill(20_000);
+    sheet[93..95].fill(20_000);
+    sheet[95] = 1_000;
     let mut book = Book::new();
     book.set(2096, 1, 12, &sheet).unwrap();
     for i in 0..112 {
@@ -494,7 +498,7 @@ fn the_greatest_benchmark_and_excess() {
     }
     sheet[36] = 0;
     sheet[20..22].fill(0);
-    sheet[93..].fill(1);
+    sheet[93..95].fill(1);
     book.set(2096, 1, 12, &sheet).unwrap();
     assert_eq!(book.benchmark(0, 0, 0, 0), Ok(0));
     // WC, PC and OC 400,000,000 without SMNCC; doubled twice; network doubled.
@@ -507,28 +511,36 @@ fn the_greatest_benchmark_and_excess() {
         })
     );
     // The dearest tariff against a cap of nothing, 366 days.
-    let mut sheet = vec![0; 95];
+    let mut sheet = vec![0; 96];
     sheet[22..36].fill(1);
-    sheet[93..].fill(20_000);
+    sheet[93..95].fill(20_000);
     book.set(2096, 1, 12, &sheet).unwrap();
     book.put(1, &tariff(1, 1_000_000, &[200_000], &[])).unwrap();
-    let excess = 24_000_000 * (1_000_000 * 366 + 200_000 * 120_000);
+    let excess = 240_000_000 * (1_000_000 * 366 + 200_000 * 120_000);
+    assert_eq!(excess, 5_847_840_000_000_000_000);
     assert_over(book.open(1), (0, 0), &[10_000; 12], excess);
+    assert_eq!(
+        book.quote(1, 13, 1, &[10_000; 12]),
+        Ok(Quote {
+            charge: excess,
+            maximum: 0
+        })
+    );
 }
 
 #[test]
 fn an_empty_sheet_opens_only_what_is_free() {
-    let mut sheet = vec![0; 95];
+    let mut sheet = vec![0; 96];
     sheet[22..29].fill(1);
-    sheet[93..].fill(1);
+    sheet[93..95].fill(1);
     let mut book = Book::new();
     book.set(2018, 2, 1, &sheet).unwrap();
     book.put(1, &tariff(1, 0, &[0], &[])).unwrap();
     assert_eq!(book.open(1), Ok(28));
     book.put(2, &tariff(1, 1, &[0], &[])).unwrap();
-    assert_over(book.open(2), (0, 0), &[0], 1_200 * 28);
+    assert_over(book.open(2), (0, 0), &[0], 12_000 * 28);
     book.put(3, &tariff(1, 0, &[0, 1], &[9_999])).unwrap();
-    assert_over(book.open(3), (0, 0), &[10_000], 1_200);
+    assert_over(book.open(3), (0, 0), &[10_000], 12_000);
 }
 
 // The calls.
@@ -571,7 +583,7 @@ fn put_open_close_drop() {
     assert_eq!(book.state(32), Some(State::Open));
     // The second record stands.
     let quote = book.quote(32, 0, 1, &[1, 0, 0]).unwrap();
-    assert_eq!(quote.charge, (22_000 * 92 + 17_000) * 3_600_000);
+    assert_eq!(quote.charge, (22_000 * 92 + 17_000) * 36_000_000);
     assert_eq!(number(book.close(32)), 0);
     assert_eq!(number(book.close(32)), 12);
     // A bad record leaves the draft.
@@ -679,12 +691,13 @@ fn the_walk_goes_by_region_then_method() {
 #[test]
 fn the_smallest_of_the_worst_months() {
     // 10 mills per kWh at the cap and nothing at nil.
-    let mut sheet = vec![0; 95];
+    let mut sheet = vec![0; 96];
     sheet[22..36].fill(1);
     for pair in (37..93).step_by(2) {
         sheet[pair + 1] = 1_000;
     }
-    sheet[93..].fill(100);
+    sheet[93..95].fill(100);
+    sheet[95] = 580;
     let mut book = Book::new();
     book.set(2018, 2, 2, &sheet).unwrap();
     let worst = |book: &mut Book, kind, rates: &[u32], steps: &[u32]| {
@@ -710,8 +723,8 @@ fn the_smallest_of_the_worst_months() {
     );
     assert_eq!(worst(&mut book, 2, &[10, 10], &[]), [0, 0]);
     assert_eq!(worst(&mut book, 2, &[11, 10], &[]), [10_000, 10_000]);
-    assert_eq!(worst(&mut book, 3, &[20, 0], &[50, 50]), [0, 0]);
-    assert_eq!(worst(&mut book, 3, &[20, 0], &[51, 49]), [10_000, 10_000]);
+    assert_eq!(worst(&mut book, 3, &[20, 0], &[500, 500]), [0, 0]);
+    assert_eq!(worst(&mut book, 3, &[20, 0], &[501, 499]), [10_000, 10_000]);
 }
 
 #[test]
@@ -721,7 +734,7 @@ fn records() {
     let one = [1, 1, 0, 1, 1, 5, 0, 0, 0, 0, 0, 0, 0];
     let four = [1, 4, 0, 1, 1, 5, 5, 5, 5, 1, 2, 9_999, 0];
     let e7 = [2, 2, 0, 1, 1, 5, 5, 0, 0, 0, 0, 0, 0];
-    let multi = [3, 3, 0, 1, 1, 5, 5, 5, 0, 0, 100, 0, 0];
+    let multi = [3, 3, 0, 1, 1, 5, 5, 5, 0, 0, 1_000, 0, 0];
     for good in [one, four, e7, multi] {
         assert_eq!(put(&good), 0);
         assert_eq!(put(&good[..12]), 8);
@@ -741,8 +754,8 @@ fn records() {
         (one, &[(5, 0)]),
         (four, &[(9, 9_997), (10, 9_998)]),
         (four, &[(10, 9_998)]),
-        (multi, &[(9, 33), (10, 33), (11, 34)]),
-        (multi, &[(1, 4), (8, 7), (10, 1), (12, 99)]),
+        (multi, &[(9, 333), (10, 333), (11, 334)]),
+        (multi, &[(1, 4), (8, 7), (10, 1), (12, 999)]),
         (multi, &[(1, 2), (7, 0)]),
     ] {
         assert_eq!(
@@ -783,16 +796,19 @@ fn records() {
         (e7, &[(1, 1), (6, 0)]),
         (e7, &[(1, 3)]),
         (e7, &[(7, 1)]),
+        (e7, &[(9, 580), (10, 420)]),
         (e7, &[(9, 58), (10, 42)]),
         (e7, &[(9, 1)]),
-        (multi, &[(1, 1), (6, 0), (7, 0), (9, 100), (10, 0)]),
+        (multi, &[(1, 1), (6, 0), (7, 0), (9, 1_000), (10, 0)]),
         (multi, &[(1, 5)]),
-        (multi, &[(10, 99)]),
+        (multi, &[(10, 999)]),
+        (multi, &[(10, 100)]),
+        (multi, &[(9, 33), (10, 33), (11, 34)]),
         (multi, &[(9, 1)]),
-        (multi, &[(10, 101)]),
-        (multi, &[(9, u32::MAX), (10, 101)]),
-        (multi, &[(9, 1 << 31), (10, (1 << 31) + 100)]),
-        (multi, &[(10, 99), (12, 1)]),
+        (multi, &[(10, 1_001)]),
+        (multi, &[(9, u32::MAX), (10, 1_001)]),
+        (multi, &[(9, 1 << 31), (10, (1 << 31) + 1_000)]),
+        (multi, &[(10, 999), (12, 1)]),
         (multi, &[(8, 1)]),
     ] {
         assert_eq!(
@@ -870,8 +886,8 @@ fn quotes() {
     assert_eq!(
         quote(3, 1, &[99, 100, 101]),
         Ok(Quote {
-            charge: charge * 3_600_000,
-            maximum: 27_970_470_000_000,
+            charge: charge * 36_000_000,
+            maximum: 279_704_700_000_000,
         })
     );
 }
@@ -879,13 +895,13 @@ fn quotes() {
 #[test]
 fn three_registers() {
     let mut book = reference_book();
-    let record = tariff(3, 1_000, &[10_000, 20_001, 30_000], &[33, 33, 34]);
+    let record = tariff(3, 1_000, &[10_000, 20_001, 30_000], &[333, 333, 334]);
     book.put(1, &record).unwrap();
-    // 330,000 + 660,033 + 1,020,000 hundredths of a mill per kWh.
+    // 3,330,000 + 6,660,333 + 10,020,000 thousandths of a mill per kWh.
     let quote = book.quote(1, 0, 0, &[1, 0, 2]).unwrap();
-    assert_eq!(quote.charge, 12 * 4_000 * (100 * 92_000 + 3 * 2_010_033));
+    assert_eq!(quote.charge, 12 * 4_000 * (1_000 * 92_000 + 3 * 20_010_333));
     assert_eq!(
         quote.maximum,
-        100 * book.maximum(0, 1, 0, 3).unwrap().number
+        1_000 * book.maximum(0, 1, 0, 3).unwrap().number
     );
 }

@@ -116,7 +116,7 @@ fn verdicts_under_a_saving_of_500_000() {
     };
     assert_eq!((breach.region, breach.method), (0, 1));
     assert_eq!(breach.months(), [0, 0, 0]);
-    assert_eq!(breach.excess, 89 * 3_600_000);
+    assert_eq!(breach.excess, 89 * 36_000_000);
 }
 
 #[test]
@@ -281,7 +281,7 @@ fn fourteen_in_its_place() {
     let saving = -5_250_001;
     assert_eq!(answer(&with(saving, &[])), 14);
     // Before it 1, 2 and 3.
-    assert_eq!(answer(&with(saving, &[])[..94]), 1);
+    assert_eq!(answer(&with(saving, &[])[..95]), 1);
     assert_eq!(answer(&[&with(saving, &[])[..], &[0]].concat()), 1);
     assert_eq!(answer(&with(saving, &[(93, 0)])), 2);
     assert_eq!(answer_in(2023, 13, 3, &with(saving, &[])), 3);

@@ -78,8 +78,8 @@ fn one_of_two_would_fall_in_october_alone() {
     assert_eq!(
         book.quote(1, 0, 1, &[0, 0, 0]),
         Ok(Quote {
-            charge: 3_600_000 * 92 * 23_960,
-            maximum: 300_000 * 3 * 8_817_500,
+            charge: 36_000_000 * 92 * 23_960,
+            maximum: 3_000_000 * 3 * 8_817_500,
         })
     );
     assert_eq!(number(book.close(1)), 0);
@@ -88,13 +88,13 @@ fn one_of_two_would_fall_in_october_alone() {
     assert_eq!(number(book.set(2023, 10, 1, &reference())), 0);
     assert_eq!(book.state(1), Some(State::Draft));
     assert_eq!(book.state(2), Some(State::Open));
-    // 3,600,000 x 742,760 - 300,000 x 8,817,500.
+    // 36,000,000 x 742,760 - 3,000,000 x 8,817,500.
     let second::NotOpened::OverCap(breach) = book.open(1).unwrap_err() else {
         panic!("not refusal 11");
     };
     assert_eq!((breach.region, breach.method), (0, 1));
     assert_eq!(breach.months(), [0]);
-    assert_eq!(breach.excess, 28_686_000_000);
+    assert_eq!(breach.excess, 286_860_000_000);
 }
 
 #[test]
@@ -188,7 +188,7 @@ fn the_refusals_of_set_in_their_order() {
     let long = [&field[..], &[0]].concat();
 
     for (year, month, t, fields, expected) in [
-        (2023, 10, 3, &good[..94], 1),
+        (2023, 10, 3, &good[..95], 1),
         (0, 0, 0, &long[..], 1),
         (2023, 10, 3, &[][..], 1),
         (2023, 10, 3, &field[..], 2),

@@ -26,6 +26,15 @@ fn first_seed(program: &Program) -> Result<(), String> {
     random_calls(program, 1).map(drop)
 }
 
+/// The same; the difference is an answer, and not that there is none.
+fn first_seed_answered(program: &Program) -> Result<(), String> {
+    first_seed(program).inspect_err(|report| {
+        let answers = ["answered: ok", "answered: refused"];
+        let answered = answers.iter().any(|answer| report.contains(answer));
+        assert!(answered, "{report}");
+    })
+}
+
 #[test]
 fn right_desks_pass() {
     for program in [
@@ -102,7 +111,7 @@ fn random_calls_find_refusals_in_a_wrong_order() {
             ("quote: 13 before 10", "answered: refused 13"),
             ("maximum: 10 before 13", "answered: refused 10"),
         ],
-        first_seed,
+        first_seed_answered,
     );
 }
 
@@ -124,7 +133,7 @@ fn random_calls_find_what_is_wrong_with_a_trial() {
             ("trial: it changes the book", "expected:"),
             ("trial: what would fall is closed", "expected:"),
         ],
-        first_seed,
+        first_seed_answered,
     );
 }
 
@@ -150,9 +159,70 @@ fn random_calls_find_what_is_wrong_with_a_saving() {
         ("14 after 5", "answered: refused 5"),
     ] {
         for call in ["set", "trial"] {
-            all_found(&[(&format!("{call}: {fault}"), says)], first_seed);
+            all_found(&[(&format!("{call}: {fault}"), says)], first_seed_answered);
         }
     }
+}
+
+/// Each of them in SET alone, and in TRIAL alone.
+#[test]
+fn random_calls_find_what_is_wrong_with_the_split_of_a_sheet() {
+    for (fault, says) in [
+        ("Economy 7 at 580", "expected: "),
+        ("peak and off-peak exchanged", "expected: "),
+        ("the peak share in whole percents", "expected: "),
+        ("a peak share of 0 is not allowed", "answered: refused 2"),
+        (
+            "a peak share of 1,000 is not allowed",
+            "answered: refused 2",
+        ),
+        ("a peak share of 1,001 is allowed", "expected: refused 2"),
+        (
+            "a peak share of up to 10,000 is allowed",
+            "expected: refused 2",
+        ),
+        ("the peak share is not looked at", "expected: refused 2"),
+        ("95 numbers are enough", "expected: refused 1"),
+        ("a 97th number is passed over", "expected: refused 1"),
+        ("2 for the peak share after 3", "answered: refused 3"),
+        ("2 for the peak share after 4", "answered: refused 4"),
+        ("2 for the peak share after 14", "answered: refused 14"),
+        ("2 for the peak share after 5", "answered: refused 5"),
+    ] {
+        for call in ["set", "trial"] {
+            all_found(&[(&format!("{call}: {fault}"), says)], first_seed_answered);
+        }
+    }
+}
+
+#[test]
+fn random_calls_find_what_is_wrong_with_a_split() {
+    all_found(
+        &[
+            ("set: open ones judged by the split before", "expected: "),
+            ("trial: judged by the split in force", " trial "),
+            ("open: Economy 7 at 580", " open "),
+            ("quote: Economy 7 at 580", " quote "),
+            ("put: Economy 7 goes by its steps", "expected: "),
+            ("put: Economy 7 keeps the split in force", "expected: "),
+            ("put: two registers are Economy 7", "expected: "),
+            ("put: shares in percent are taken", "expected: refused 8"),
+            ("put: a share of 1,001 is taken", "expected: refused 8"),
+            ("put: shares of 999 are taken", "expected: refused 8"),
+            ("open: an excess over 1,200 x m", "expected: refused 11"),
+            (
+                "open: an excess of kind 1 over 1,200 x m",
+                "expected: refused 11",
+            ),
+            ("quote: a charge over 1,200 x m", "expected: ok"),
+            ("quote: a maximum over 1,200 x m", "expected: ok"),
+            ("quote: kind 1 over 1,200 x m", "expected: ok"),
+            ("quote: kind 3 over 1,200 x m", "expected: ok"),
+            ("maximum: over 12,000 x m", "expected: ok"),
+            ("maximum: a number over 12,000 x m", "expected: ok"),
+        ],
+        first_seed_answered,
+    );
 }
 
 #[test]

@@ -7,11 +7,11 @@
 
 use second::{Book, NotOpened, Refusal, State};
 
-const SHEET: [u32; 95] = sheet();
+const SHEET: [u32; 96] = sheet();
 
 /// The reference sheet, with network costs lower by 1,000,000 in the last region.
-const fn sheet() -> [u32; 95] {
-    let mut s = [0; 95];
+const fn sheet() -> [u32; 96] {
+    let mut s = [0; 96];
     let mut f = 0;
     while f < 4 {
         let level = f % 2;
@@ -41,6 +41,7 @@ const fn sheet() -> [u32; 95] {
     }
     s[93] = 3_000;
     s[94] = 4_000;
+    s[95] = 580;
     s
 }
 
@@ -166,9 +167,9 @@ fn mixed(k: u32) -> [u32; 13] {
             11_000 + k,
             14_000 + k,
             0,
-            50,
-            30,
-            20,
+            500,
+            300,
+            200,
             0,
         ],
     }
@@ -209,7 +210,7 @@ fn open_in(book: &Book) -> usize {
 }
 
 /// Draws one of the sheet's network costs anew, and its current DFI; the year and the month of the sheet's period.
-fn redraw(sheet: &mut [u32; 95], x: &mut Generator) -> (u32, u32) {
+fn redraw(sheet: &mut [u32; 96], x: &mut Generator) -> (u32, u32) {
     x.next();
     let at = 37 + x.below(56) as usize;
     x.next();

@@ -3,7 +3,8 @@
 use mathlib.Core.Path.{_≡_, ap, ap₂}
 use Prim.Native.Nat.{ℕ, _+_, _*_, _≤_}
 use native.Mathlib.Omega.{arith}
-use Rattle.tariff.specs.Tariff.{wholeShare, standingMost}
+use Rattle.shares.specs.Shares.{wholeShare}
+use Rattle.tariff.specs.Tariff.{standingMost}
 use Rattle.charge.specs.Most.{daysMost}
 use Rattle.cap.specs.Corners.{levelMost}
 use Rattle.cap.proofs.Sizes.{daily, standing-part, months-charged}

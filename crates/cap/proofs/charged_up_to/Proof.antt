@@ -1,4 +1,4 @@
--- `cap::charged_up_to` meets its contract: what is charged between the corners, times 1,200 × m, fits beside what came before.
+-- `cap::charged_up_to` meets its contract: what is charged between the corners, times the scale, fits beside what came before.
 -- Assumes nothing.
 use mathlib.Core.Path.{ap}
 use Prim.Native.Nat.{_+_, _*_, _-_, _≤_}
@@ -11,7 +11,7 @@ use Rattle.cap.specs.Corners.{levelMost, monthChargedMost}
 use Rattle.cap.proofs.charged_up_to.Statement.{statement}
 use Rattle.cap.proofs.charged_up_to.Tie as tie
 
--- what is charged between the corners, and that times 1,200 × m
+-- what is charged between the corners, and that times the scale
 between : (c : tie.After-charge-for) → c .charge-for .result .0 ≤ monthChargeMost
 between c =
     let st = c .before in

@@ -4,7 +4,7 @@ use mathlib.Core.Path.{_≡_, _∙_}
 use Prim.Native.Nat.{_+_, _*_, _-_, _≤_}
 use native.Mathlib.Omega.{arith}
 use lib.ListN.{length}
-use Rattle.tariff.specs.Tariff.{wholeShare}
+use Rattle.shares.specs.Shares.{wholeShare}
 use Rattle.cap.specs.Cap.{worstMonth}
 use Rattle.cap.specs.Deciding.{monthCharged}
 use Rattle.cap.specs.Corners.{monthChargedMost, room, Raised}

@@ -12,7 +12,7 @@ use borrow.Author.Needs.{needs}
 use Rattle.cap.proofs.corners_of.Statement.{statement}
 use Rattle.cap.proofs.corners_of.Tie as tie
 
--- a month's charge, times 1,200 × m; none for no kWh, and never more than the most
+-- a month's charge, times the scale; none for no kWh, and never more than the most
 abbrev price : tie.Start → ℕ → ℕ
 price st kwh = 12 * st .args .m * monthCharge (st .args .peak) (st .args .x) kwh
 

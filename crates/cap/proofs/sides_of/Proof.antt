@@ -4,7 +4,7 @@ use mathlib.Core.Path.{ap, _∙_}
 use Prim.Native.Nat.{ℕ, _*_}
 use native.Mathlib.Nat.{mul-le-mul}
 use native.Mathlib.Omega.{arith}
-use Rattle.tariff.specs.Tariff.{wholeShare}
+use Rattle.shares.specs.Shares.{wholeShare}
 use Rattle.cap.specs.Cap.{charged, capped, maximum}
 use Rattle.cap.proofs.Sizes.{scale-most}
 use borrow.Author.Needs.{needs}

@@ -10,7 +10,8 @@ use lib.ListN.{length, getD, drop}
 use Rattle.laws.specs.Notions.{total}
 use Rattle.laws.proofs.Bounds.{total-most}
 use Rattle.laws.proofs.Parts.{total-alike, total-next, total-end}
-use Rattle.tariff.specs.Tariff.{wholeShare, standingMost}
+use Rattle.shares.specs.Shares.{wholeShare}
+use Rattle.tariff.specs.Tariff.{standingMost}
 use Rattle.charge.specs.Charge.{monthMost, monthCharge}
 use Rattle.charge.specs.Most.{monthsMost, daysMost, monthChargeMost}
 use Rattle.charge.specs.Tiers.{byTiers}

@@ -13,10 +13,11 @@ use lib.ListN.{length, getD}
 use Rattle.laws.specs.Notions.{sum}
 use Rattle.laws.proofs.Parts.{four}
 use Rattle.tariff.specs.declared.Tariff.{Tariff}
-use Rattle.tariff.specs.Tariff.{wholeShare, rateMost}
+use Rattle.shares.specs.Shares.{wholeShare, weighted}
+use Rattle.tariff.specs.Tariff.{rateMost}
 use Rattle.tariff.proofs.Validity.{valid-rates, rates-at, by-kind, valid-economy7, valid-multi}
 use Rattle.charge.specs.declared.Tiers.{Tiers}
-use Rattle.charge.specs.Charge.{monthMost, ratesInUse, shares, weighted}
+use Rattle.charge.specs.Charge.{monthMost, ratesInUse, shares}
 use Rattle.charge.specs.Tiers.{scaledRates, tiersOf, TiersFit}
 use Rattle.charge.proofs.TariffTiers.{tiers-fit}
 use Rattle.charge.proofs.tiers_of.Statement.{statement}

@@ -12,9 +12,9 @@ use Rattle.laws.proofs.Bounds.{take-most}
 use Rattle.laws.proofs.Lists.{drop-take, drop-end}
 use Rattle.tariff.specs.Tariff.{rateMost}
 use Rattle.tariff.proofs.Validity.{rates-at}
-use Rattle.charge.specs.Charge.{weighted}
+use Rattle.shares.specs.Shares.{weighted}
 use Rattle.charge.specs.Most.{scaledRateMost}
-use Rattle.charge.proofs.Weighted.{weighted-most}
+use Rattle.shares.proofs.Weighted.{weighted-most}
 use Rattle.charge.proofs.weighted_rate.Statement.{statement}
 use Rattle.charge.proofs.weighted_rate.Tie as tie
 

@@ -72,10 +72,10 @@ returns c =
     answers-refusal _ _ _ _ _ told (c .refused .ensures) (first-refuses _ _ _ (sym answer ∙ told))
 
 -- what each answer that passed has shown stands where it is first used
-counted : (one : tie.After-enum-told) → length (fields-at one) ≡ 95
+counted : (one : tie.After-enum-told) → length (fields-at one) ≡ fieldCount
 counted one =
-    eqb-true (length (fields-at one)) 95
-    (unless-passes (eqb (length (fields-at one)) 95) 1 Pass (sym (one .before .before .before .count-check .ensures) ∙ one .enum-told .given .1) .0)
+    eqb-true (length (fields-at one)) fieldCount
+    (unless-passes (eqb (length (fields-at one)) fieldCount) 1 Pass (sym (one .before .before .before .count-check .ensures) ∙ one .enum-told .given .1) .0)
 
 fields-check-requires : tie.Need-fields-check-requires
 fields-check-requires c κs = counted c
@@ -218,13 +218,16 @@ shared-slice-read-single c = let s = counted (fourteen-one (c .before .before .b
 shared-slice-read-economy : tie.Need-shared-slice-read-economy
 shared-slice-read-economy c = let s = counted (fourteen-one (c .before .before .before .before .before .before)) in search needs
 
+shared-slice-read-peak : tie.Need-shared-slice-read-peak
+shared-slice-read-peak c = let s = counted (fourteen-one (c .before .before .before .before .before .before .before)) in search needs
+
 days-requires : tie.Need-days-requires
-days-requires c κs = period-ranged (four-three (fourteen-four (c .before .before .before .before .before .before)))
+days-requires c κs = period-ranged (four-three (fourteen-four (c .before .before .before .before .before .before .before)))
 
 returns-7 : tie.Need-returns-7
 unfolding benchmarksOf
 returns-7 c =
-    let five = c .before .before .before in
+    let five = c .before .before .before .before in
     let checked = five .before .before in
     let fourteen = checked .before .before in
     answers-pass _ _ _ refl (rw (checked .before .figures-of .ensures, c .days .ensures .0))
@@ -267,5 +270,6 @@ work-out-spec =
     returns-6
     shared-slice-read-single
     shared-slice-read-economy
+    shared-slice-read-peak
     days-requires
     returns-7)

@@ -6,15 +6,16 @@ use native.Mathlib.Omega.{arith}
 use lib.ListN.{length, getD, length-set}
 use lib.Seq.{ext-getD}
 use Rattle.laws.proofs.Filled.{filled-more}
+use Rattle.sheet.specs.Sheet.{fieldCount}
 use borrow.Author.Needs.{needs}
 use Rattle.setting.proofs.fields_of.Statement.{statement}
 use Rattle.setting.proofs.fields_of.Tie as tie
 
 abbrev Inv-loop : tie.InvT-loop
-Inv-loop fields copy₀ i₀ copy i = (i ≤ 95) × (length copy ≡ 95) × ((j : ℕ) → j < i → getD copy j 0 ≡ getD fields j 0)
+Inv-loop fields copy₀ i₀ copy i = (i ≤ fieldCount) × (length copy ≡ fieldCount) × ((j : ℕ) → j < i → getD copy j 0 ≡ getD fields j 0)
 
 abbrev μ-loop : tie.MeasureT-loop
-μ-loop fields copy₀ i₀ copy i = 95 - i
+μ-loop fields copy₀ i₀ copy i = fieldCount - i
 
 loop-holds : tie.Need-loop-holds Inv-loop μ-loop
 loop-holds c = (omega arith, refl, λ j h. absurd (omega arith))

@@ -8,15 +8,15 @@ use borrow.Author.Needs.{needs}
 use borrow.Author.Tests.{not-true, not-false}
 use Rattle.laws.specs.Notions.{every}
 use Rattle.laws.proofs.Every.{every-more, every-not}
-use Rattle.sheet.specs.Sheet.{field, fieldInRange, fieldsInRange}
+use Rattle.sheet.specs.Sheet.{fieldCount, field, fieldInRange, fieldsInRange}
 use Rattle.sheet.proofs.fields_in_range.Statement.{statement}
 use Rattle.sheet.proofs.fields_in_range.Tie as tie
 
 abbrev Inv-loop : tie.InvT-loop
-Inv-loop s i₀ i = (i ≤ 95) × (every i (λ k. fieldInRange k (field s k)) ≡ true)
+Inv-loop s i₀ i = (i ≤ fieldCount) × (every i (λ k. fieldInRange k (field s k)) ≡ true)
 
 abbrev μ-loop : tie.MeasureT-loop
-μ-loop s i₀ i = 95 - i
+μ-loop s i₀ i = fieldCount - i
 
 loop-holds : tie.Need-loop-holds Inv-loop μ-loop
 unfolding every
@@ -39,7 +39,7 @@ returns c =
     sym
     (every-not
     (λ k. fieldInRange k (field s k))
-    95
+    fieldCount
     (lp .i)
     (omega arith)
     (sym (c .before .field-in-range .ensures) ∙ not-true _ (c .if1 .taken)))
@@ -66,7 +66,7 @@ returns-2 : tie.Need-returns-2 Inv-loop μ-loop
 unfolding fieldsInRange
 returns-2 c =
     let lp = c .before .loop in
-    let e : lp .i ≡ 95 = omega arith in
+    let e : lp .i ≡ fieldCount = omega arith in
     sym (rw e at (lp .inv .1))
 
 pub fields-in-range-spec : {M : Type 1} → statement M

@@ -4,6 +4,7 @@ use mathlib.Core.Path.{_≡_}
 use Prim.Native.Nat.{_-_, _≤_}
 use native.Mathlib.Omega.{arith}
 use lib.ListN.{length}
+use Rattle.sheet.specs.Sheet.{fieldCount}
 use Rattle.book.specs.Book.{Reachable}
 use Rattle.book.proofs.Reached.{does-reachable}
 use borrow.Author.Needs.{needs}
@@ -11,7 +12,7 @@ use Rattle.speed.proofs.sets.Statement.{statement}
 use Rattle.speed.proofs.sets.Tie as tie
 
 abbrev Inv-loop : tie.InvT-loop
-Inv-loop n base sheet₀ b₀ x₀ sum₀ i₀ sheet b x sum i = (i ≤ n) × (length sheet ≡ 95) × Reachable b
+Inv-loop n base sheet₀ b₀ x₀ sum₀ i₀ sheet b x sum i = (i ≤ n) × (length sheet ≡ fieldCount) × Reachable b
 
 abbrev μ-loop : tie.MeasureT-loop
 μ-loop n base sheet₀ b₀ x₀ sum₀ i₀ sheet b x sum i = n - i

@@ -3,12 +3,13 @@
 use mathlib.Core.Path.{_≡_}
 use Prim.Native.Nat.{_-_, _≤_}
 use lib.ListN.{length}
+use Rattle.sheet.specs.Sheet.{fieldCount}
 use borrow.Author.Needs.{needs}
 use Rattle.speed.proofs.trials.Statement.{statement}
 use Rattle.speed.proofs.trials.Tie as tie
 
 abbrev Inv-loop : tie.InvT-loop
-Inv-loop n base sheet₀ b x₀ sum₀ i₀ sheet x sum i = (i ≤ n) × (length sheet ≡ 95)
+Inv-loop n base sheet₀ b x₀ sum₀ i₀ sheet x sum i = (i ≤ n) × (length sheet ≡ fieldCount)
 
 abbrev μ-loop : tie.MeasureT-loop
 μ-loop n base sheet₀ b x₀ sum₀ i₀ sheet x sum i = n - i

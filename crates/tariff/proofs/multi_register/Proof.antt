@@ -10,7 +10,8 @@ use borrow.Author.Tests.{le-leb, lt-leb}
 use Rattle.laws.specs.Notions.{sum}
 use Rattle.laws.proofs.Every.{and-both}
 use Rattle.laws.proofs.Answers.{goes, stays}
-use Rattle.tariff.specs.Tariff.{wholeShare, within, zeroFrom, multiRegister}
+use Rattle.shares.specs.Shares.{wholeShare}
+use Rattle.tariff.specs.Tariff.{within, zeroFrom, multiRegister}
 use Rattle.tariff.specs.declared.Tariff.{Tariff}
 use Rattle.tariff.proofs.multi_register.Statement.{statement}
 use Rattle.tariff.proofs.multi_register.Tie as tie

@@ -43,11 +43,11 @@ returns : tie.Need-returns
 returns c =
     let w = c .before .before .before .before in
     let f = w .before .before .figure-index in
-    λ b q l t d.
+    λ b q l k t d.
     numbers-are b _ _ _ _ (f .result) _ (f .ensures .0)
     (w .wide .ensures ∙ ap (λ (cs : List ℕ). getD cs (f .result) 0) (sym q))
     (c .before .before .wide2 .ensures ∙ ap (λ (cs : List ℕ). getD cs (f .result + 1) 0) (sym q))
-    (c .before .wide3 .ensures ∙ sym l) (c .wide4 .ensures ∙ sym t) (sym d) refl refl
+    (c .before .wide3 .ensures ∙ sym l) (c .wide4 .ensures ∙ sym t) (sym d) refl (sym k)
 
 pub cell-numbers-spec : {M : Type 1} → statement M
 cell-numbers-spec =

@@ -36,7 +36,7 @@ module _ (c : tie.After-cell-numbers Inv-loop μ-loop Inv-walk μ-walk) where
   read =
       let st = c .before .before .before .before .before .before .before .before .before .before .before .before .before .before .before in
       cell-read (st .args .b) (st .args .x) (st .pre .0) (st .pre .1) _ _ _ in-region (c .before .before .before .before .loop-test .taken) (c .before .before .before .before .before .before .before .before .before .before .before .before .arrangement-of .ensures .0) _
-      (c .cell-numbers .ensures (st .args .b) refl refl refl refl) _ _ (c .before .before .before .before .before .before .before .before .before .before .before .wide .ensures) (c .before .before .before .before .before .before .before .before .before .before .corners-of .ensures)
+      (c .cell-numbers .ensures (st .args .b) refl refl refl refl refl) _ _ (c .before .before .before .before .before .before .before .before .before .before .before .wide .ensures) (c .before .before .before .before .before .before .before .before .before .before .corners-of .ensures)
 
 -- so the answer is that of the cell
 decides : (c : tie.After-exceeds Inv-loop μ-loop Inv-walk μ-walk) → let n = c .before in let a = n .before .before .before .before .before .before .before .before .before .before .before .before .before .before .before .args in
@@ -64,7 +64,7 @@ wide-requires c κs = search needs
 corners-of-requires : tie.Need-corners-of-requires Inv-loop μ-loop Inv-walk μ-walk
 corners-of-requires c κs =
     let st = c .before .before .before .before in
-    (st .pre .1, omega arith, rw (c .wide .ensures) (st .pre .0 .level-most (c .before .arrangement-of .result)))
+    (st .pre .1, st .pre .0 .peak-most, rw (c .wide .ensures) (st .pre .0 .level-most (c .before .arrangement-of .result)))
 
 walk-holds : tie.Need-walk-holds Inv-loop μ-loop Inv-walk μ-walk
 unfolding firstBelow

@@ -22,7 +22,7 @@ cell-numbers-requires c κs = search needs
 returns : tie.Need-returns
 returns c =
     let st = c .before .before .before .before in
-    let is = c .cell-numbers .ensures (st .args .b) refl refl refl refl in
+    let is = c .cell-numbers .ensures (st .args .b) refl refl refl refl refl in
     (is, subst Fits (sym is) (numbers-fit (st .args .b) (st .pre .0) _ _ _ _ (st .pre .3) (st .pre .1) (st .pre .4) (st .pre .2)))
 
 pub numbers-in-spec : {M : Type 1} → statement M

@@ -77,6 +77,13 @@ fn fixed_run(program: &Program, commit: Option<u64>, all_counts: bool) -> Result
         same_set.map(|(_, times)| times).sum(),
         "trials with the same set right after them",
     );
+    let split = counts
+        .iter()
+        .filter(|(what, _)| what.contains("peak share alone: ") && what.ends_with(" fall"));
+    tell(
+        split.map(|(_, times)| times).sum(),
+        "sheets set or tried, new in the peak share alone",
+    );
     tell(
         count("lines sent one by one, answered before the next"),
         "lines in conversation, each answered before the next was sent",

@@ -12,7 +12,7 @@ use std::time::Duration;
 use second::desk::{Desk, LINE_LIMIT};
 use second::{
     field_value, operating_costs, period_days, Book, NotOpened, Refusal, State, Tariff, FIELDS,
-    SMNCC,
+    PEAK_SHARE, RECORD, SMNCC, WHOLE,
 };
 
 const BLOCK: usize = 65_536;
@@ -24,6 +24,11 @@ struct WrongDesk {
     begun: Vec<u8>,
     /// The numbers of the last SET that was accepted.
     in_force: Vec<u32>,
+    /// The kind of the last tariff put at each code.
+    kinds: [u32; 33],
+    /// The set of codes that this desk has kept open at the last SET, though they fell, and of
+    /// those that it made drafts, though they did not.
+    misjudged: (u32, u32),
 }
 
 impl WrongDesk {
@@ -92,17 +97,25 @@ impl WrongDesk {
         let mut words = text.split_ascii_whitespace();
         let call = words.next().unwrap_or_default();
         let numbers: Vec<u32> = words.flat_map(str::parse).collect();
-        match self.wrong_sheet(call, &numbers) {
-            Some(fields) if is_call(line) => {
-                let period = &numbers[..3];
-                self.desk
-                    .line(&call_line(call, &[period, &fields].concat()), out);
+        let mut at_580 = None;
+        let mut other = None;
+        if is_call(line) {
+            at_580 = self.at_580(call, &numbers);
+            other = self.wrong_numbers(call, &numbers);
+            if call == "set" && self.is("set: open ones judged by the split before") {
+                self.misjudge(&numbers);
             }
-            _ => self.desk.line(line, out),
+        }
+        match other {
+            Some(numbers) => self.desk.line(&call_line(call, &numbers), out),
+            None => self.desk.line(line, out),
         }
         let answer = &out[start..];
         let wrong = match (call, answer) {
             ("trial", [b'o' | b'r', ..]) => self.wrong_trial(&numbers),
+            (_, [b'o' | b'r', ..]) => at_580
+                .or_else(|| self.wrong_state(call, &numbers))
+                .or_else(|| self.wrong_figures(call, &numbers, answer)),
             _ => None,
         };
         if let Some(answer) = wrong {
@@ -113,7 +126,168 @@ impl WrongDesk {
             out.extend_from_slice(refusal);
         } else if call == "set" && answer == b"ok\n" {
             self.in_force = numbers;
+        } else if call == "put" && answer == b"ok\n" {
+            self.kinds[numbers[0] as usize] = numbers[1];
         }
+    }
+
+    /// Other numbers than those of the call, for faults in SET, in TRIAL or in PUT alone.
+    fn wrong_numbers(&self, call: &str, numbers: &[u32]) -> Option<Vec<u32>> {
+        if call == "put" {
+            return self.wrong_record(numbers);
+        }
+        let fields = self.wrong_split(call, numbers);
+        let fields = fields.or_else(|| self.wrong_sheet(call, numbers))?;
+        Some([&numbers[..3], &fields].concat())
+    }
+
+    /// The fields of a sheet with another split, or of another length.
+    fn wrong_split(&self, call: &str, numbers: &[u32]) -> Option<Vec<u32>> {
+        let fault = self.fault_of(call)?;
+        let mut fields = numbers.get(3..)?.to_vec();
+        match (fault, fields.len()) {
+            ("95 numbers are enough", 95) => {
+                fields.push(580);
+                return Some(fields);
+            }
+            ("a 97th number is passed over", 97) => {
+                fields.pop();
+                return Some(fields);
+            }
+            (_, FIELDS) => {}
+            _ => return None,
+        }
+        let share = fields[PEAK_SHARE];
+        fields[PEAK_SHARE] = match (fault, share) {
+            ("Economy 7 at 580", 0..=WHOLE) => 580,
+            ("peak and off-peak exchanged", 0..=WHOLE) => WHOLE - share,
+            ("the peak share in whole percents", 0..=WHOLE) => share / 10 * 10,
+            ("a peak share of 0 is not allowed", 0) => WHOLE + 1,
+            ("a peak share of 1,000 is not allowed", 1_000) => WHOLE + 1,
+            ("a peak share of 1,001 is allowed", 1_001) => WHOLE,
+            ("a peak share of up to 10,000 is allowed", 1_001..=10_000) => WHOLE,
+            ("the peak share is not looked at", 1_001..) => WHOLE,
+            _ => return None,
+        };
+        Some(fields)
+    }
+
+    /// The numbers of a PUT with another record.
+    fn wrong_record(&self, numbers: &[u32]) -> Option<Vec<u32>> {
+        let fault = self.fault_of("put")?;
+        let mut other = numbers.to_vec();
+        let record: &mut [u32; RECORD] = other.get_mut(1..)?.try_into().ok()?;
+        let economy_7 = record[0] == 2 && Tariff::new(record).is_some();
+        match fault {
+            "shares in percent are taken" if record[0] == 3 => {
+                for share in &mut record[9..] {
+                    *share = share.wrapping_mul(10);
+                }
+                // Those in tenths too.
+                Tariff::new(record)?;
+            }
+            "a share of 1,001 is taken" if record[0] == 3 => {
+                for share in &mut record[9..] {
+                    *share = if *share == 1_001 { WHOLE } else { *share };
+                }
+            }
+            "shares of 999 are taken" if record[0] == 3 => {
+                record[9] = record[9].wrapping_add(1);
+                Tariff::new(record)?;
+            }
+            "Economy 7 goes by its steps" if economy_7 => record[5..7].fill(0),
+            "two registers are Economy 7" if record[..2] == [3, 2] => {
+                Tariff::new(record)?;
+                record[0] = 2;
+                record[9..].fill(0);
+            }
+            "Economy 7 keeps the split in force" if economy_7 => {
+                let share = self.in_force.get(3 + PEAK_SHARE).copied().unwrap_or(580);
+                record[0] = 3;
+                (record[9], record[10]) = (share, WHOLE - share);
+            }
+            _ => return None,
+        }
+        Some(other)
+    }
+
+    /// The answer to an OPEN or to a QUOTE with the sheet in force at a peak share of 580.
+    fn at_580(&self, call: &str, numbers: &[u32]) -> Option<String> {
+        if self.fault_of(call)? != "Economy 7 at 580" || !["open", "quote"].contains(&call) {
+            return None;
+        }
+        let code = *numbers.first()?;
+        let mut book = self.desk.book().clone();
+        if call == "open" && book.state(code) != Some(State::Draft) {
+            return None;
+        }
+        let mut sheet = self.in_force.clone();
+        *sheet.get_mut(3 + PEAK_SHARE)? = 580;
+        book.set(sheet[0], sheet[1], sheet[2], &sheet[3..]).ok()?;
+        let mut desk = Desk::new();
+        *desk.book_mut() = book;
+        let mut answer = Vec::new();
+        desk.line(&call_line(call, numbers), &mut answer);
+        String::from_utf8(answer).ok()
+    }
+
+    /// SET leaves open or makes a draft what the split of the sheet before says.
+    fn misjudge(&mut self, numbers: &[u32]) {
+        let book = self.desk.book();
+        let Ok(right) = trial(book, numbers, numbers) else {
+            return;
+        };
+        let wrong = self.at_the_split_in_force(numbers);
+        let wrong = wrong.and_then(|before| trial(book, &before, &before).ok());
+        self.misjudged = wrong.map_or((0, 0), |wrong| (right & !wrong, wrong & !right));
+    }
+
+    /// The numbers of a sheet with the peak share of the one in force.
+    fn at_the_split_in_force(&self, numbers: &[u32]) -> Option<Vec<u32>> {
+        let mut numbers = numbers.to_vec();
+        *numbers.get_mut(3 + PEAK_SHARE)? = *self.in_force.get(3 + PEAK_SHARE)?;
+        Some(numbers)
+    }
+
+    /// The answer to a call with a code that this desk takes for open, or for a draft.
+    fn wrong_state(&self, call: &str, numbers: &[u32]) -> Option<String> {
+        let code = numbers.first().filter(|code| (1..=32).contains(*code))?;
+        let among = |set: u32| set >> (code - 1) & 1 == 1;
+        let (open, drafts) = (among(self.misjudged.0), among(self.misjudged.1));
+        let answer = match call {
+            "open" | "put" | "drop" if open => "refused 7\n",
+            "close" if open => "ok\n",
+            "close" if drafts => "refused 12\n",
+            _ => return None,
+        };
+        Some(answer.to_string())
+    }
+
+    /// The answer with its figures at another scale.
+    fn wrong_figures(&self, call: &str, numbers: &[u32], answer: &[u8]) -> Option<String> {
+        let fault = self.fault_of(call)?;
+        let answer = std::str::from_utf8(answer).ok()?;
+        let mut words: Vec<String> = answer.split_whitespace().map(str::to_string).collect();
+        let over = answer.starts_with("refused 11 ");
+        let ok = answer.starts_with("ok ");
+        let kind = |wanted: u32| self.kinds.get(numbers[0] as usize) == Some(&wanted);
+        let (places, by): (&[usize], fn(u64) -> u64) = match (call, fault) {
+            ("open", "an excess over 1,200 x m") if over => (&[4], |value| value / 10),
+            ("open", "an excess of kind 1 over 1,200 x m") if over && kind(1) => {
+                (&[4], |value| value / 10)
+            }
+            ("quote", "a charge over 1,200 x m") if ok => (&[1], |value| value / 10),
+            ("quote", "a maximum over 1,200 x m") if ok => (&[2], |value| value / 10),
+            ("quote", "kind 1 over 1,200 x m") if ok && kind(1) => (&[1, 2], |value| value / 10),
+            ("quote", "kind 3 over 1,200 x m") if ok && kind(3) => (&[1, 2], |value| value / 10),
+            ("maximum", "over 12,000 x m") if ok => (&[1, 2], |value| 1_000 * value),
+            ("maximum", "a number over 12,000 x m") if ok => (&[1], |value| 1_000 * value),
+            _ => return None,
+        };
+        for &place in places {
+            words[place] = by(words[place].parse().ok()?).to_string();
+        }
+        Some(words.join(" ") + "\n")
     }
 
     /// The fields of another sheet than the one in the call, for faults in SET or in TRIAL alone.
@@ -207,6 +381,10 @@ impl WrongDesk {
             "trial: judged by the period in force" if with_sheet => {
                 trial(book, &self.in_force, numbers).ok()?.into()
             }
+            "trial: judged by the split in force" if with_sheet => {
+                let sheet = self.at_the_split_in_force(numbers)?;
+                trial(book, &sheet, &sheet).ok()?.into()
+            }
             "trial: region 0 alone is looked at" => codes(&|code| {
                 let answer = after.clone().open(code);
                 let over = matches!(answer, Err(NotOpened::OverCap(breach)) if breach.region == 0);
@@ -263,6 +441,18 @@ impl WrongDesk {
                     b"refused 5\n",
                 )
             }
+            (fault, b"refused 2\n") if fault.starts_with("2 for the peak share after ") => {
+                let mut inside = numbers.to_vec();
+                *inside.get_mut(3 + PEAK_SHARE)? = 580;
+                let later: (u32, &[u8]) = match tried(&inside)? {
+                    Refusal::Period => (3, b"refused 3\n"),
+                    Refusal::TermTooHigh => (4, b"refused 4\n"),
+                    Refusal::BenchmarkFalls => (5, b"refused 5\n"),
+                    Refusal::OcBelowZero => (14, b"refused 14\n"),
+                    _ => return None,
+                };
+                (fault.ends_with(&format!(" {}", later.0)), later.1)
+            }
             ("13 before 10", b"refused 10\n") => (numbers[1] > 13, b"refused 13\n"),
             ("10 before 13", b"refused 13\n") => (self.desk.book().t().is_none(), b"refused 10\n"),
             _ => return None,
@@ -316,6 +506,8 @@ fn work(fault: &str) -> io::Result<ExitCode> {
         desk: Desk::new(),
         begun: Vec::new(),
         in_force: Vec::new(),
+        kinds: [0; 33],
+        misjudged: (0, 0),
     };
     match fault {
         "it leaves at once" => return Ok(ExitCode::SUCCESS),

@@ -31,7 +31,7 @@ impl Counts {
         if refusal != 14 {
             count!(self, "{call} with a saving: {answer}");
         }
-        let common: &[u32; COMMON_FIELDS] = fields.first_chunk().expect("95 fields");
+        let common: &[u32; COMMON_FIELDS] = fields.first_chunk().expect("96 fields");
         let Ok(four) = operating_costs(common) else {
             return;
         };

@@ -65,10 +65,13 @@ impl Counts {
         }
         if self.period.is_some() && tried.key == self.in_force {
             self.tally.one("trial of the sheet in force");
-        } else if was > 0 && key(fields) == self.fields_in_force {
+        } else if was > 0 && *fields == self.fields[..] {
             count!(self, "trial of another period alone: {which} would fall");
         } else if was > 0 && Some(period) == self.period {
             count!(self, "trial of other fields alone: {which} would fall");
+        }
+        if self.peak_share_alone(numbers) {
+            self.another_peak_share("trial", numbers, tried.fallen);
         }
         if was > 0 {
             count!(self, "trial: {which} of the open ones would fall");

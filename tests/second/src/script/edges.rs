@@ -8,6 +8,7 @@ pub(super) fn nothing() -> Vec<u32> {
     let mut fields = vec![0; FIELDS];
     fields[22..36].fill(1);
     fields[93..95].fill(1);
+    fields[PEAK_SHARE] = DRAFTED;
     fields
 }
 

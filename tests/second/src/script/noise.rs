@@ -84,7 +84,7 @@ impl Writer {
         let call = self.random.pick(&CALLS);
         let bad = self.random.pick(&WORDS);
         let count = if ["set", "trial"].contains(&call) {
-            self.random.pick(&[1, 2, 3, 98])
+            self.random.pick(&[1, 2, 3, 99])
         } else {
             1 + self.random.index(15)
         };

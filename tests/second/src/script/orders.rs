@@ -42,6 +42,11 @@ impl Writer {
         let answer = Book::new().set_dated(&dated);
         if answer.is_err_and(|refusal| refusal.number() == first) {
             self.note(&format!("order: {call} {first} before {second}"));
+            if first == 2 && dated.fields[PEAK_SHARE] > WHOLE {
+                self.note(&format!(
+                    "order: {call} 2 for the peak share before {second}"
+                ));
+            }
         }
         match call {
             "set" => self.set(&dated),
@@ -55,7 +60,9 @@ impl Writer {
             1 if self.random.one_in(2) => drop(dated.fields.pop()),
             1 => dated.fields.push(0),
             2 => {
-                let field = self.random.pick(&[16, 19, 21, SMNCC, 92]);
+                let field = self
+                    .random
+                    .pick(&[16, 19, 21, SMNCC, 92, PEAK_SHARE, PEAK_SHARE]);
                 let (lowest, highest) = field_range(field);
                 let outside = if field == SMNCC {
                     // OC is below zero too.

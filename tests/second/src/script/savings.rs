@@ -25,7 +25,7 @@ impl Dated {
 
     /// The lowest of the operating costs without SMNCC, or 0 if one of them is too high.
     fn room(&self) -> u32 {
-        let common: &[u32; COMMON_FIELDS] = self.fields.first_chunk().expect("95 fields");
+        let common: &[u32; COMMON_FIELDS] = self.fields.first_chunk().expect("96 fields");
         let lowest = operating_costs(common).map(|four| four.into_iter().min());
         match lowest {
             Ok(Some(oc)) => (oc - self.value(SMNCC)) as u32,

@@ -45,7 +45,7 @@ impl Writer {
     /// A sheet that SET takes, most of the time.
     pub(super) fn good_sheet(&mut self) -> Dated {
         let mut dated = reference();
-        match self.random.below(25) {
+        match self.random.below(33) {
             0 => return dated,
             1..=5 => {
                 let mild = self.random.one_in(2);
@@ -73,9 +73,13 @@ impl Writer {
             17..=18 => self.brink_of_term(&mut dated),
             19 => self.brink_of_fall(&mut dated),
             20 => self.halves(&mut dated),
-            _ => {
+            21..=24 => {
                 dated = self.good_sheet();
                 self.saving(&mut dated);
+            }
+            _ => {
+                dated = self.good_sheet();
+                self.split(&mut dated);
             }
         }
         dated
@@ -305,9 +309,9 @@ impl Writer {
         match self.random.below(13) {
             0..=1 => {
                 let count = match self.random.below(3) {
-                    0 => self.random.pick(&[0, 1, 93, 94, 96, 97, 98, 190, 1_000]),
-                    1 => 94,
-                    _ => 96,
+                    0 => self.random.pick(&[0, 1, 94, 95, 97, 98, 99, 192, 1_000]),
+                    1 => 95,
+                    _ => 97,
                 };
                 let last = self.random.between(0, 9);
                 dated.fields.resize(count, last);
@@ -316,7 +320,7 @@ impl Writer {
                 let field = match self.random.below(4) {
                     0 => self
                         .random
-                        .pick(&[22, 23, 24, 25, 26, 27, 28, SMNCC, 93, 94]),
+                        .pick(&[22, 23, 24, 25, 26, 27, 28, SMNCC, 93, 94, PEAK_SHARE]),
                     _ => {
                         self.spoilt = (self.spoilt + 1) % FIELDS;
                         self.spoilt

@@ -108,9 +108,10 @@ impl Writer {
         }
     }
 
-    pub(super) fn percentages(&mut self, n: usize) -> [u32; 4] {
+    /// Shares of a whole.
+    pub(super) fn shares(&mut self, n: usize, whole: u32) -> [u32; 4] {
         let mut places = [0; 4];
-        let mut left = 100;
+        let mut left = whole;
         for place in places.iter_mut().take(n - 1) {
             *place = match self.random.below(5) {
                 0 => 0,
@@ -138,7 +139,7 @@ impl Writer {
         let steps = match kind {
             1 => self.steps(n as usize - 1),
             2 => [0; 4],
-            _ => self.percentages(n as usize),
+            _ => self.shares(n as usize, WHOLE),
         };
         record[9..].copy_from_slice(&steps);
 
@@ -252,7 +253,7 @@ impl Writer {
                 steps
             }
             2 => [0; 4],
-            _ => self.percentages(n as usize),
+            _ => self.shares(n as usize, WHOLE),
         };
         record[9..].copy_from_slice(&steps);
         record
@@ -277,26 +278,9 @@ impl Writer {
         let rate = rise / m;
         let mut record = [1, 0, 0, 1 << region, 1 << method, 0, 0, 0, 0, 0, 0, 0, 0];
         if arrangement == 1 {
-            // The weighted rate is the cap's own: flat from 0 to 10,000.
-            if !(100 * p).is_multiple_of(u64::from(q)) {
-                return None;
-            }
-            let weighted = 100 * p / u64::from(q);
-            (record[0], record[1]) = (3, 2);
-            if self.random.one_in(2) {
-                let peak = (0..100u64).find(|peak| {
-                    weighted
-                        .checked_sub(58 * peak)
-                        .is_some_and(|left| left % 42 == 0)
-                })?;
-                record[0] = 2;
-                record[5] = peak as u32;
-                record[6] = u32::try_from((weighted - 58 * peak) / 42).ok()?;
-            } else {
-                record[5] = (weighted % 99) as u32;
-                record[6] = u32::try_from(weighted / 99).ok()?;
-                (record[9], record[10]) = (1, 99);
-            }
+            // As flat as the cap from 0 to 10,000.
+            let kind = self.random.between(2, 3);
+            record = self.flat(kind, region, method)?;
         } else {
             if q > 4_000 || rate > RATE_LIMIT - 20_000 {
                 return None;
@@ -350,7 +334,7 @@ impl Writer {
     pub(super) fn bad_record(&mut self) -> Vec<u32> {
         let mut record = self.shape().to_vec();
         let n = record[1] as usize;
-        let way = match self.random.below(19) {
+        let way = match self.random.below(21) {
             0 => {
                 record.pop();
                 "record: 12 numbers"
@@ -360,7 +344,7 @@ impl Writer {
                 "record: 14 numbers"
             }
             2 => {
-                let count = self.random.pick(&[0, 1, 5, 9, 26, 95, 500]);
+                let count = self.random.pick(&[0, 1, 5, 9, 26, 96, 500]);
                 record.resize(count, 0);
                 "record: another length"
             }
@@ -418,10 +402,10 @@ impl Writer {
             13 => {
                 record = self.shape_where(|r| r[0] == 2).to_vec();
                 if self.random.one_in(2) {
-                    (record[9], record[10]) = (58, 42);
+                    (record[9], record[10]) = self.random.pick(&[(580, 420), (58, 42)]);
                 } else {
                     let place = self.random.between(9, 12) as usize;
-                    record[place] = self.random.pick(&[1, 100, u32::MAX]);
+                    record[place] = self.random.pick(&[1, WHOLE, u32::MAX]);
                 }
                 "record: Economy 7 with a step"
             }
@@ -450,33 +434,48 @@ impl Writer {
                 let place = self.random.pick(&places);
                 if self.random.one_in(2) && record[place] > 0 {
                     record[place] -= 1;
-                    "record: percentages of 99"
+                    "record: shares of 999"
                 } else {
                     record[place] += 1;
-                    "record: percentages of 101"
+                    "record: shares of 1,001"
                 }
             }
             17 => {
                 record = self.shape_where(|r| r[0] == 3).to_vec();
-                // 100, if sums went round at 2^32 or at 2^8.
-                (record[9], record[10]) =
-                    self.random
-                        .pick(&[(u32::MAX, 101), (200, 156), (0x8000_0032, 0x8000_0032)]);
+                // 1,000, if sums went round at 2^32 or at 2^16.
+                (record[9], record[10]) = self.random.pick(&[
+                    (u32::MAX, 1_001),
+                    (60_000, 6_536),
+                    (0x8000_01f4, 0x8000_01f4),
+                ]);
                 record[11..].fill(0);
-                "record: percentage above 100"
+                "record: share above 1,000"
+            }
+            19 => {
+                record = self.shape_where(|r| r[0] == 3).to_vec();
+                record[9..].fill(0);
+                let place = 9 + self.random.index(record[1] as usize);
+                record[place] = WHOLE + 1;
+                "record: share of 1,001, the others 0"
+            }
+            18 => {
+                record = self.shape_where(|r| r[0] == 3).to_vec();
+                let shares = self.shares(record[1] as usize, 100);
+                record[9..].copy_from_slice(&shares);
+                "record: shares in percent"
             }
             _ => {
                 record = self.shape_where(|r| r[0] == 3 && r[1] < 4).to_vec();
                 let place = 9 + self.random.between(record[1], 3) as usize;
                 let used = self.random.index(record[1] as usize);
                 if self.random.one_in(2) && record[9 + used] > 0 {
-                    // The sum over all four places stays 100.
+                    // The sum over all four places stays 1,000.
                     record[9 + used] -= 1;
                     record[place] = 1;
                 } else {
-                    record[place] = self.random.pick(&[1, 100, u32::MAX]);
+                    record[place] = self.random.pick(&[1, WHOLE, u32::MAX]);
                 }
-                "record: percentage past n"
+                "record: share past n"
             }
         };
         if self.scratch.put(1, &record).is_err() {

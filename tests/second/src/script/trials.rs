@@ -8,12 +8,13 @@ impl Writer {
     /// A trial of any sheet, and what comes after it.
     pub(super) fn any_trial(&mut self) {
         let mut dated = self.sheet.clone();
-        match self.random.below(11) {
+        match self.random.below(12) {
             0 => {}
             1 => self.period(&mut dated),
             2..=3 => self.squeeze(&mut dated),
             4 => dated.fields = nothing(),
             5 => self.saving(&mut dated),
+            6 => self.split(&mut dated),
             _ => dated = self.good_sheet(),
         }
         if self.random.one_in(3) {
@@ -62,6 +63,9 @@ impl Writer {
         if self.random.one_in(3) {
             self.some_saving(&mut dated);
         }
+        if self.random.one_in(2) {
+            self.split(&mut dated);
+        }
         self.set(&dated);
         let mut free = dated.clone();
         free.fields = nothing();
@@ -79,12 +83,13 @@ impl Writer {
 
         for _ in 0..5 {
             let mut dated = self.sheet.clone();
-            match self.random.below(7) {
+            match self.random.below(8) {
                 0 => {}
                 1 => dated.fields = nothing(),
                 2 => self.period(&mut dated),
                 3 => self.shift(&mut dated, true),
                 4 => self.some_saving(&mut dated),
+                5 => self.split(&mut dated),
                 _ => self.squeeze(&mut dated),
             }
             let answer = self.trial(&dated);

@@ -1,18 +1,14 @@
--- Weighted rates share one fact, for any number of registers and months: the weighted rate on the total is each register's share of each
--- month's kWh at its rate. With it `charge-registers` says what a tariff of kind 2 or 3 charges, register by register.
+-- Weighting is shown once, for any number of registers, any rates and any shares: the weighted rate on the total is each register's
+-- share of each month's kWh at its rate.
 -- Assumes nothing.
 use mathlib.Core.Path.{_≡_}
-use mathlib.Core.Bool.{false}
 use mathlib.Core.List.{List, [], _∷_}
-use Prim.Native.Nat.{ℕ, suc, _+_, _*_, _≤_}
+use Prim.Native.Nat.{ℕ, suc, _*_, _≤_}
 use native.Mathlib.Nat.{mul-le-mul-right}
 use native.Mathlib.Omega.{arith}
-use lib.Dec.{eqb}
 use lib.ListN.{getD}
 use Rattle.laws.specs.Notions.{sum, total}
-use Rattle.tariff.specs.declared.Tariff.{Tariff}
-use Rattle.tariff.specs.Tariff.{wholeShare}
-use Rattle.charge.specs.Charge.{ratesInUse, shares, weighted, registers, charge}
+use Rattle.shares.specs.Shares.{weighted, registers}
 
 -- a month's registers come to the weighted rate for its kWh
 pub registers-month : (rs ps : List ℕ) (kwh : ℕ) → registers rs ps kwh ≡ weighted rs ps * kwh
@@ -26,12 +22,6 @@ pub registers-weighted : (rs ps : List ℕ) (months : List ℕ) → total (regis
 unfolding total sum
 registers-weighted rs ps [] = omega arith
 registers-weighted rs ps (kwh ∷ months) = omega (arith, registers-month rs ps kwh, registers-weighted rs ps months)
-
--- the charge of a tariff that is not of kind 1, times the whole: the standing charge, and each register's share of the months' kWh at its rate
-pub charge-registers : (standing days peak : ℕ) (x : Tariff) (months : List ℕ) → eqb (x .kind) 1 ≡ false
-    → charge standing days peak x months ≡ wholeShare * (standing * days) + total (registers (ratesInUse x) (shares peak x)) months
-unfolding charge
-charge-registers standing days peak x months e = rw (e, registers-weighted (ratesInUse x) (shares peak x) months)
 
 -- a weighted rate is at most the greatest rate times the sum of the shares
 pub weighted-most : (R : ℕ) (rs ps : List ℕ) → ((i : ℕ) → getD rs i 0 ≤ R) → weighted rs ps ≤ R * sum ps

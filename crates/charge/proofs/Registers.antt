@@ -1,0 +1,45 @@
+-- What a tariff with shares charges, register by register: the one fact of weighting, for kinds 2 and 3 alike.
+-- Assumes nothing.
+use mathlib.Core.Path.{_≡_, sym, _∙_, ap}
+use mathlib.Core.Bool.{Bool, false, cond}
+use mathlib.Core.List.{List, [], _∷_}
+use Prim.Native.Nat.{ℕ, _+_, _-_, _*_}
+use lib.Dec.{eqb}
+use lib.ListN.{take}
+use Rattle.laws.specs.Notions.{sum, total}
+use Rattle.shares.specs.Shares.{wholeShare, weighted, registers}
+use Rattle.shares.proofs.Weighted.{registers-weighted}
+use Rattle.tariff.specs.declared.Tariff.{Tariff}
+use Rattle.charge.specs.Charge.{ratesInUse, tierSteps, shares, tierCharge, monthCharge, charge}
+
+-- times the whole: the standing charge, and each register's share of the months' kWh at its rate
+pub charge-registers : (standing days peak : ℕ) (x : Tariff) (months : List ℕ) → eqb (x .kind) 1 ≡ false
+    → charge standing days peak x months ≡ wholeShare * (standing * days) + total (registers (ratesInUse x) (shares peak x)) months
+unfolding charge
+charge-registers standing days peak x months e = rw (e, registers-weighted (ratesInUse x) (shares peak x) months)
+
+-- only Economy 7 depends on the split
+module _ (p q : ℕ) (x : Tariff) (other : eqb (x .kind) 2 ≡ false) where
+  own-shares : (peak : ℕ) → shares peak x ≡ take (x .n) (x .steps)
+  own-shares peak = ap (λ (economy : Bool). cond economy (peak ∷ (wholeShare - peak) ∷ []) (take (x .n) (x .steps))) other
+
+  shares-same : shares p x ≡ shares q x
+  shares-same = own-shares p ∙ sym (own-shares q)
+
+  pub month-without-split : (kwh : ℕ) → monthCharge p x kwh ≡ monthCharge q x kwh
+  unfolding monthCharge
+  month-without-split kwh =
+      ap
+      (λ (ps : List ℕ). cond (eqb (x .kind) 1) (wholeShare * tierCharge 0 (ratesInUse x) (tierSteps x) kwh) (weighted (ratesInUse x) ps * kwh))
+      shares-same
+
+  pub charge-without-split : (standing days : ℕ) (months : List ℕ) → charge standing days p x months ≡ charge standing days q x months
+  unfolding charge
+  charge-without-split standing days months =
+      ap
+      (λ (ps : List ℕ).
+      wholeShare * (standing * days)
+      + cond (eqb (x .kind) 1)
+      (wholeShare * total (tierCharge 0 (ratesInUse x) (tierSteps x)) months)
+      (weighted (ratesInUse x) ps * sum months))
+      shares-same

@@ -81,7 +81,7 @@ gathered w n c o h e p =
     ∙ ap (λ x. x +ℤ n +ℤ p) (add-right-comm (w +ℤ c +ℤ o) h e)
 
 -- "The benchmark is WC + NC + PC + OC + H + PAENC + PANC."
-benchmark-parts : (s : List ℕ) (r a p l : ℕ) → benchmark s r a p l ≡ common s a p l +ℤ nc s r (four a l) +ℤ panc s p (nc s r (four a l))
+pub benchmark-parts : (s : List ℕ) (r a p l : ℕ) → benchmark s r a p l ≡ common s a p l +ℤ nc s r (four a l) +ℤ panc s p (nc s r (four a l))
 unfolding benchmark common sumFrom costsAt
 benchmark-parts s r a p l = gathered (wc s (four a l)) (nc s r (four a l)) (pc s (four a l)) (oc s (four a l)) _ _ _
 

@@ -2,3 +2,4 @@ pub mod Sizes
 pub mod Commons
 pub mod Signs
 pub mod Lawful
+pub mod Splits

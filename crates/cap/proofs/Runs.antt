@@ -11,8 +11,8 @@ use Rattle.laws.proofs.Bounds.{four-most}
 use Rattle.laws.proofs.Parts.{four}
 use Rattle.laws.proofs.Greatest.{Straight}
 use Rattle.laws.proofs.Pieces.{Pieces, done, piece, still, corner-most, scan, scan-is-first}
-use Rattle.tariff.specs.declared.Tariff.{Tariff}
 use Rattle.shares.specs.Shares.{wholeShare}
+use Rattle.tariff.specs.declared.Tariff.{Tariff}
 use Rattle.tariff.specs.Tariff.{validTariff}
 use Rattle.charge.specs.declared.Tiers.{Tiers}
 use Rattle.charge.specs.Charge.{monthMost, tierCharge, monthCharge}

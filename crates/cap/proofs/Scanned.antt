@@ -6,8 +6,8 @@ use mathlib.Core.List.{List}
 use Prim.Native.Nat.{ℕ, _≤_}
 use lib.ListN.{length, replicate}
 use Rattle.laws.proofs.Pieces.{scan}
-use Rattle.tariff.specs.declared.Tariff.{Tariff}
 use Rattle.shares.specs.Shares.{wholeShare}
+use Rattle.tariff.specs.declared.Tariff.{Tariff}
 use Rattle.tariff.specs.Tariff.{validTariff}
 use Rattle.charge.specs.Charge.{monthMost}
 use Rattle.charge.specs.Tiers.{tiersOf}

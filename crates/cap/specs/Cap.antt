@@ -8,8 +8,8 @@ use lib.ListN.{length, getD, replicate}
 use lib.Signed.{_<ℤ_}
 use Rattle.laws.specs.Notions.{sum}
 use Rattle.laws.specs.Greatest.{firstGreatest}
-use Rattle.tariff.specs.declared.Tariff.{Tariff}
 use Rattle.shares.specs.Shares.{wholeShare}
+use Rattle.tariff.specs.declared.Tariff.{Tariff}
 use Rattle.charge.specs.Charge.{monthMost, monthCharge, charge}
 use Rattle.cap.specs.declared.CellNumbers.{CellNumbers}
 

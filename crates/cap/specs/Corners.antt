@@ -6,8 +6,8 @@ use Prim.Native.Nat.{ℕ, zero, suc, _+_, _-_, _*_, _≤_, _<_}
 use lib.IntN.{pos}
 use lib.ListN.{getD, take}
 use Rattle.laws.proofs.Pieces.{Pieces}
-use Rattle.tariff.specs.declared.Tariff.{Tariff}
 use Rattle.shares.specs.Shares.{wholeShare}
+use Rattle.tariff.specs.declared.Tariff.{Tariff}
 use Rattle.tariff.specs.Tariff.{standingMost}
 use Rattle.charge.specs.declared.Tiers.{Tiers}
 use Rattle.charge.specs.Charge.{monthMost, monthCharge}

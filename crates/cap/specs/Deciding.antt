@@ -13,8 +13,8 @@ use Rattle.laws.specs.Greatest.{Greatest}
 use Rattle.laws.proofs.Sums.{total-same, total-scaled, total-line}
 use Rattle.laws.proofs.Differences.{difference-above, above-difference}
 use Rattle.laws.proofs.Greatest.{Best, first-best, first-greatest, total-best}
-use Rattle.tariff.specs.declared.Tariff.{Tariff}
 use Rattle.shares.specs.Shares.{wholeShare}
+use Rattle.tariff.specs.declared.Tariff.{Tariff}
 use Rattle.charge.specs.Charge.{monthMost, monthCharge}
 use Rattle.charge.proofs.Months.{charge-monthly}
 use Rattle.cap.specs.declared.CellNumbers.{CellNumbers}

@@ -8,8 +8,8 @@ use native.Mathlib.Omega.{arith}
 use lib.Dec.{eqb}
 use Rattle.laws.specs.Notions.{sum, total}
 use Rattle.laws.proofs.Sums.{total-scaled, total-line}
-use Rattle.tariff.specs.declared.Tariff.{Tariff}
 use Rattle.shares.specs.Shares.{wholeShare, weighted}
+use Rattle.tariff.specs.declared.Tariff.{Tariff}
 use Rattle.charge.specs.Charge.{ratesInUse, tierSteps, shares, tierCharge, monthCharge, charge}
 
 -- the charge is the standing charge and the sum of the months' charges

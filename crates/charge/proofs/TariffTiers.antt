@@ -14,15 +14,15 @@ use borrow.Author.Tests.{eqb-true, eqb-false}
 use Rattle.laws.specs.Notions.{sum}
 use Rattle.laws.proofs.Bounds.{take-most, four-most}
 use Rattle.laws.proofs.Parts.{take-map}
-use Rattle.tariff.specs.declared.Tariff.{Tariff}
 use Rattle.shares.specs.Shares.{wholeShare, weighted}
+use Rattle.shares.proofs.Weighted.{weighted-most}
+use Rattle.tariff.specs.declared.Tariff.{Tariff}
 use Rattle.tariff.specs.Tariff.{rateMost, stepMost, validTariff}
 use Rattle.tariff.proofs.Validity.{valid-rates, rates-at, within-at, rising-at, by-kind, valid-single, valid-multi, valid-n}
 use Rattle.charge.specs.declared.Tiers.{Tiers}
 use Rattle.charge.specs.Charge.{monthMost, ratesInUse, tierSteps, shares, tierCharge, monthCharge}
 use Rattle.charge.specs.Most.{scaledRateMost, monthChargeMost}
 use Rattle.charge.specs.Tiers.{scaledRates, tiersOf, byTiers, Rising, TiersFit}
-use Rattle.shares.proofs.Weighted.{weighted-most}
 
 -- a factor of every rate is one of the charge
 tier-scaled : (k : ℕ) (rs ss : List ℕ) (from kwh : ℕ) → tierCharge from (map (λ r. k * r) rs) ss kwh ≡ k * tierCharge from rs ss kwh

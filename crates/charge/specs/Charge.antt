@@ -6,8 +6,8 @@ use Prim.Native.Nat.{ℕ, _+_, _-_, _*_, min}
 use lib.Dec.{eqb}
 use lib.ListN.{take}
 use Rattle.laws.specs.Notions.{sum, total}
-use Rattle.tariff.specs.declared.Tariff.{Tariff}
 use Rattle.shares.specs.Shares.{wholeShare, weighted}
+use Rattle.tariff.specs.declared.Tariff.{Tariff}
 
 -- "A month's consumption is 0 to 10,000."
 abbrev pub monthMost : ℕ

@@ -6,8 +6,8 @@ use mathlib.Core.List.{List, [], _∷_, map}
 use Prim.Native.Nat.{ℕ, _-_, _*_, _≤_, _<_}
 use lib.Dec.{eqb}
 use lib.ListN.{length, getD, take}
-use Rattle.tariff.specs.declared.Tariff.{Tariff}
 use Rattle.shares.specs.Shares.{wholeShare, weighted}
+use Rattle.tariff.specs.declared.Tariff.{Tariff}
 use Rattle.charge.specs.declared.Tiers.{Tiers}
 use Rattle.charge.specs.Charge.{ratesInUse, shares, tierCharge}
 use Rattle.charge.specs.Most.{scaledRateMost}

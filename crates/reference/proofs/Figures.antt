@@ -1,58 +1,39 @@
--- The figures of sheet S, worked out once for every split, and verdicts on them by the scan of the corners.
+-- The charges of sheet S, worked out once for every split, and of the sheet with no costs but NC; the days of their periods.
 -- Assumes nothing.
 use mathlib.Core.Path.{_≡_, refl}
-use mathlib.Core.Bool.{true}
 use mathlib.Core.List.{List, [], _∷_}
-use Prim.Native.Nat.{ℕ, _≤_}
+use Prim.Native.Nat.{ℕ}
 use Rattle.laws.specs.Notions.{tabulate, tabulateFrom}
 use Rattle.calendar.specs.Calendar.{periodDays, monthBegins, lengthAt, monthLength, leapYear}
-use Rattle.shares.specs.Shares.{wholeShare}
 use Rattle.sheet.specs.Sheet.{signed, valueOf, round, roundSigned, indexed}
-use Rattle.benchmark.specs.declared.Benchmarks.{Benchmarks}
-use Rattle.benchmark.specs.Benchmark.{benchmark, wc, pc, oc, nc, paenc, headroom, panc, figure, figures, benchmarksOf}
-use Rattle.tariff.specs.Tariff.{tariffOf, validTariff}
-use Rattle.verdict.specs.Cells.{Verdict}
-use Rattle.verdict.proofs.Scanned.{scannedVerdict}
+use Rattle.benchmark.specs.Benchmark.{benchmark, wc, pc, oc, nc, paenc, headroom, panc, figure, figures}
 use Rattle.reference.specs.SheetS.{times, sheetS, withSplit, periodS}
-use Rattle.reference.specs.Splits.{verdictUnder, evenSheet, january, evenVerdict}
-use Rattle.reference.proofs.Scanning.{by-scan}
+use Rattle.reference.specs.Splits.{evenSheet, january}
 
--- each region's eight, m, and a split
-unfoldable pub known : ℕ → Benchmarks
-known tenths =
-    record {
-      charges = times 14 (9418050 ∷ 66183090 ∷ 8817500 ∷ 64469500 ∷ 9418050 ∷ 72982410 ∷ 8817500 ∷ 71135500 ∷ []);
-      levels = 3000 ∷ 4000 ∷ [];
-      peak = tenths;
-      months = 3;
-      days = 92;
-    }
+-- each region's eight
+abbrev pub chargesS : List ℕ
+chargesS = times 14 (9418050 ∷ 66183090 ∷ 8817500 ∷ 64469500 ∷ 9418050 ∷ 72982410 ∷ 8817500 ∷ 71135500 ∷ [])
 
-pub is-known : (tenths : ℕ) → benchmarksOf (withSplit tenths) periodS ≡ known tenths
-unfolding benchmarksOf figures figure tabulate tabulateFrom benchmark wc pc oc nc paenc headroom panc valueOf signed indexed round roundSigned sheetS times periodDays monthBegins lengthAt monthLength leapYear known
-is-known tenths = refl
+pub charges-of-s : (tenths : ℕ) → figures (withSplit tenths) ≡ chargesS
+unfolding figures figure tabulate tabulateFrom benchmark wc pc oc nc paenc headroom panc valueOf signed indexed round roundSigned sheetS times
+charges-of-s tenths = refl
 
--- and those of the sheet with no costs but NC
-unfoldable pub even : ℕ → Benchmarks
-even tenths =
-    record {
-      charges = times 56 (7440000 ∷ 22440000 ∷ []);
-      levels = 1000 ∷ 1000 ∷ [];
-      peak = tenths;
-      months = 1;
-      days = 31;
-    }
+pub days-of-s : periodDays periodS ≡ 92
+unfolding periodDays monthBegins lengthAt monthLength leapYear
+days-of-s = refl
 
-is-even : (tenths : ℕ) → benchmarksOf (evenSheet tenths) january ≡ even tenths
-unfolding benchmarksOf figures figure tabulate tabulateFrom benchmark wc pc oc nc paenc headroom panc valueOf signed indexed round roundSigned evenSheet times periodDays monthBegins lengthAt monthLength leapYear even
-is-even tenths = refl
+-- sheet S has the split 580
+pub is-580 : sheetS ≡ withSplit 580
+unfolding sheetS times
+is-580 = refl
 
-pub on-even : (tenths : ℕ) → tenths ≤ wholeShare → (x : List ℕ) (v : Verdict) → validTariff (tariffOf x) ≡ true
-    → scannedVerdict (even tenths) (tariffOf x) ≡ v → evenVerdict tenths x ≡ v
-unfolding even
-on-even tenths h x v = by-scan (benchmarksOf (evenSheet tenths) january) (even tenths) (is-even tenths) h x v
+abbrev pub evenCharges : List ℕ
+evenCharges = times 56 (7440000 ∷ 22440000 ∷ [])
 
-pub on-known : (tenths : ℕ) → tenths ≤ wholeShare → (x : List ℕ) (v : Verdict) → validTariff (tariffOf x) ≡ true
-    → scannedVerdict (known tenths) (tariffOf x) ≡ v → verdictUnder tenths x ≡ v
-unfolding known
-on-known tenths h x v = by-scan (benchmarksOf (withSplit tenths) periodS) (known tenths) (is-known tenths) h x v
+pub charges-even : (tenths : ℕ) → figures (evenSheet tenths) ≡ evenCharges
+unfolding figures figure tabulate tabulateFrom benchmark wc pc oc nc paenc headroom panc valueOf signed indexed round roundSigned evenSheet times
+charges-even tenths = refl
+
+pub days-in-january : periodDays january ≡ 31
+unfolding periodDays monthBegins lengthAt monthLength leapYear
+days-in-january = refl

@@ -1,17 +1,16 @@
 -- The table of sheet S with a saving holds: the figures by computation, the verdict by the scan of the corners.
 -- Assumes nothing.
 use mathlib.Core.Path.{_≡_, refl}
-use mathlib.Core.List.{[], _∷_}
-use Prim.Native.Nat.{_≤_}
+use mathlib.Core.List.{List, [], _∷_}
+use Prim.Native.Nat.{ℕ, _≤_}
 use native.Mathlib.Omega.{arith}
 use lib.IntN.{pos}
 use Rattle.laws.proofs.Pieces.{scan}
 use Rattle.laws.specs.Notions.{every, sum, total, tabulate, tabulateFrom, bit}
+use Rattle.calendar.specs.Calendar.{periodInRange}
 use Rattle.shares.specs.Shares.{wholeShare}
-use Rattle.calendar.specs.Calendar.{periodDays, periodInRange, monthBegins, lengthAt, monthLength, leapYear}
-use Rattle.sheet.specs.Sheet.{signed, valueOf, rangeOf, fieldInRange, fieldsInRange, round, roundSigned, indexed, fourFit, paacFits, termsFit}
-use Rattle.benchmark.specs.declared.Benchmarks.{Benchmarks}
-use Rattle.benchmark.specs.Benchmark.{benchmark, wc, pc, oc, nc, paenc, headroom, panc, figure, figures, ocsFit, ordered, setCheck, benchmarksOf}
+use Rattle.sheet.specs.Sheet.{peakShare, signed, valueOf, rangeOf, fieldInRange, fieldsInRange, round, roundSigned, indexed, fourFit, paacFits, termsFit}
+use Rattle.benchmark.specs.Benchmark.{benchmark, wc, pc, oc, nc, paenc, headroom, panc, figure, figures, ocsFit, ordered, setCheck}
 use Rattle.benchmark.specs.Common.{costsAt, sumFrom, common, commonAt, commons}
 use Rattle.tariff.specs.Tariff.{tariffOf, validTariff, validKind, singleRegister, ratesWithin, zeroFrom, within, rising}
 use Rattle.charge.specs.Charge.{arrangement, tierCharge, monthCharge, charge}
@@ -23,29 +22,23 @@ use Rattle.verdict.specs.Cells.{cell, offered, cellNumbers, over}
 use Rattle.verdict.proofs.Scanned.{scannedBelow, scannedVerdict}
 use Rattle.reference.specs.SheetS.{times, sheetS, periodS, flat}
 use Rattle.reference.specs.Savings.{saving, Savings}
-use Rattle.reference.proofs.Scanning.{by-scan}
+use Rattle.reference.proofs.Scanning.{formed, by-scan}
+use Rattle.reference.proofs.Figures.{days-of-s}
 
--- the figures with a saving of 500,000, worked out: each region's eight
-known : Benchmarks
-known =
-    record {
-      charges = times 14 (8387850 ∷ 65152890 ∷ 7807500 ∷ 63459500 ∷ 8387850 ∷ 71952210 ∷ 7807500 ∷ 70125500 ∷ []);
-      levels = 3000 ∷ 4000 ∷ [];
-      peak = 580;
-      months = 3;
-      days = 92;
-    }
+-- the charges with a saving of 500,000, worked out: each region's eight
+abbrev charges : List ℕ
+charges = times 14 (8387850 ∷ 65152890 ∷ 7807500 ∷ 63459500 ∷ 8387850 ∷ 71952210 ∷ 7807500 ∷ 70125500 ∷ [])
 
-is-known : benchmarksOf saving periodS ≡ known
-unfolding benchmarksOf figures figure tabulate tabulateFrom benchmark wc pc oc nc paenc headroom panc valueOf signed indexed round roundSigned sheetS times periodDays monthBegins lengthAt monthLength leapYear known
-is-known = refl
+charges-are : figures saving ≡ charges
+unfolding figures figure tabulate tabulateFrom benchmark wc pc oc nc paenc headroom panc valueOf signed indexed round roundSigned sheetS times
+charges-are = refl
 
-split : known .peak ≤ wholeShare
-unfolding known
+split : peakShare saving ≤ wholeShare
+unfolding sheetS times
 split = omega arith
 
-falling : scannedVerdict known (tariffOf (flat 23960 18000)) ≡ over (cell 0 0) (0 ∷ 0 ∷ 0 ∷ []) (pos 3864870000000)
-unfolding scannedVerdict scannedBelow offered bit cellNumbers arrangement scannedMonths cornersTo tiersOf scan tierCharge monthCharge charge maximum charged capped excess sum total known times
+falling : scannedVerdict (formed saving periodS charges 92) (tariffOf (flat 23960 18000)) ≡ over (cell 0 0) (0 ∷ 0 ∷ 0 ∷ []) (pos 3864870000000)
+unfolding scannedVerdict scannedBelow offered bit cellNumbers arrangement scannedMonths cornersTo tiersOf scan tierCharge monthCharge charge maximum charged capped excess sum total sheetS times
 falling = refl
 
 -- THE TABLE
@@ -58,7 +51,7 @@ savings =
       ocs = (refl, refl, refl, refl);
       sums = refl;
       benchmarks = refl;
-      falls = by-scan (benchmarksOf saving periodS) known is-known split (flat 23960 18000) _ refl falling;
+      falls = by-scan saving periodS charges 92 charges-are days-of-s split (flat 23960 18000) _ refl falling;
       nought = (refl, refl);
       nought-accepted = refl;
       nought-benchmarks = refl;

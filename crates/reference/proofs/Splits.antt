@@ -1,12 +1,15 @@
 -- The table of other splits holds: the verdicts by the scan of the corners.
 -- Assumes nothing.
-use mathlib.Core.Path.{refl}
+use mathlib.Core.Path.{_≡_, refl}
+use mathlib.Core.Bool.{true}
+use mathlib.Core.List.{List}
+use Prim.Native.Nat.{ℕ, _≤_}
 use native.Mathlib.Omega.{arith}
 use lib.Count.{ones, onesIn}
 use Rattle.laws.proofs.Pieces.{scan}
 use Rattle.laws.specs.Notions.{every, sum, total, tabulate, tabulateFrom, bit}
 use Rattle.calendar.specs.Calendar.{periodInRange}
-use Rattle.shares.specs.Shares.{weighted}
+use Rattle.shares.specs.Shares.{wholeShare, weighted}
 use Rattle.sheet.specs.Sheet.{signed, valueOf, rangeOf, fieldInRange, fieldsInRange, round, roundSigned, indexed, fourFit, paacFits, termsFit}
 use Rattle.benchmark.specs.Benchmark.{benchmark, wc, pc, oc, nc, paenc, headroom, panc, figure, figures, ocsFit, ordered, setCheck}
 use Rattle.tariff.specs.Tariff.{tariffOf, recordCheck, validTariff, validKind, singleRegister, economy7, multiRegister, ratesWithin, zeroFrom, within, rising}
@@ -15,15 +18,16 @@ use Rattle.charge.specs.Tiers.{tiersOf}
 use Rattle.cap.specs.Cap.{maximum, charged, capped, excess}
 use Rattle.cap.specs.Corners.{cornersTo}
 use Rattle.cap.proofs.Scanned.{scannedMonths}
-use Rattle.verdict.specs.Cells.{offered, cellNumbers, cellCount}
+use Rattle.verdict.specs.Cells.{offered, cellNumbers, cellCount, Verdict}
 use Rattle.verdict.proofs.Scanned.{scannedBelow, scannedVerdict}
-use Rattle.reference.specs.SheetS.{times, sheetS, flat, economySeven}
-use Rattle.reference.specs.Splits.{dayDear, nightDear, registersAt, SplitVerdicts, evenSheet, EvenVerdicts, Splits}
-use Rattle.reference.proofs.Figures.{known, on-known, even, on-even}
+use Rattle.reference.specs.SheetS.{times, sheetS, withSplit, periodS, flat, economySeven}
+use Rattle.reference.specs.Splits.{verdictUnder, dayDear, nightDear, registersAt, SplitVerdicts, evenSheet, january, evenVerdict, EvenVerdicts, Splits}
+use Rattle.reference.proofs.Scanning.{formed, by-scan}
+use Rattle.reference.proofs.Figures.{chargesS, charges-of-s, days-of-s, evenCharges, charges-even, days-in-january}
 
 -- the verdicts, by the scan
-computed : SplitVerdicts (λ tenths x. scannedVerdict (known tenths) (tariffOf x))
-unfolding scannedVerdict scannedBelow offered bit cellNumbers arrangement scannedMonths cornersTo tiersOf scan tierCharge weighted monthCharge charge maximum charged capped excess sum total cellCount ones onesIn known times
+computed : SplitVerdicts (λ tenths x. scannedVerdict (formed (withSplit tenths) periodS chargesS 92) (tariffOf x))
+unfolding scannedVerdict scannedBelow offered bit cellNumbers arrangement scannedMonths cornersTo tiersOf scan tierCharge weighted monthCharge charge maximum charged capped excess sum total cellCount ones onesIn sheetS times
 computed =
     record {
       at-579 = refl;
@@ -38,8 +42,8 @@ computed =
       flat-within = refl;
     }
 
-even-computed : EvenVerdicts (λ tenths x. scannedVerdict (even tenths) (tariffOf x))
-unfolding scannedVerdict scannedBelow offered bit cellNumbers arrangement scannedMonths cornersTo tiersOf scan weighted monthCharge charge maximum charged capped excess sum total cellCount ones onesIn even times
+even-computed : EvenVerdicts (λ tenths x. scannedVerdict (formed (evenSheet tenths) january evenCharges 31) (tariffOf x))
+unfolding scannedVerdict scannedBelow offered bit cellNumbers arrangement scannedMonths cornersTo tiersOf scan weighted monthCharge charge maximum charged capped excess sum total cellCount ones onesIn evenSheet times
 even-computed =
     record {
       exact = refl;
@@ -52,6 +56,17 @@ even-computed =
       split-over = refl;
       split-under = refl;
     }
+
+-- a verdict by the scan, of sheet S and of the even one
+on-known : (tenths : ℕ) → tenths ≤ wholeShare → (x : List ℕ) (v : Verdict) → validTariff (tariffOf x) ≡ true
+    → scannedVerdict (formed (withSplit tenths) periodS chargesS 92) (tariffOf x) ≡ v → verdictUnder tenths x ≡ v
+unfolding sheetS times
+on-known tenths h = by-scan (withSplit tenths) periodS chargesS 92 (charges-of-s tenths) days-of-s h
+
+on-even : (tenths : ℕ) → tenths ≤ wholeShare → (x : List ℕ) (v : Verdict) → validTariff (tariffOf x) ≡ true
+    → scannedVerdict (formed (evenSheet tenths) january evenCharges 31) (tariffOf x) ≡ v → evenVerdict tenths x ≡ v
+unfolding evenSheet times
+on-even tenths h = by-scan (evenSheet tenths) january evenCharges 31 (charges-even tenths) days-in-january h
 
 -- THE TABLE
 pub splits : Splits

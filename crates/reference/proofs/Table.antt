@@ -3,42 +3,49 @@
 use mathlib.Core.Path.{_≡_, refl, _∙_, ap}
 use mathlib.Core.Bool.{true}
 use mathlib.Core.List.{List, [], _∷_}
-use Prim.Native.Nat.{ℕ}
+use Prim.Native.Nat.{ℕ, _≤_}
 use native.Mathlib.Omega.{arith}
 use lib.Count.{ones, onesIn}
 use lib.IntN.{ℤ, pos, _-ℤ_}
 use Rattle.laws.proofs.Pieces.{scan}
 use Rattle.laws.specs.Notions.{every, sum, total, tabulate, tabulateFrom, bit}
 use Rattle.calendar.specs.Calendar.{periodDays, periodInRange, monthBegins, lengthAt, monthLength, leapYear}
-use Rattle.sheet.specs.Sheet.{signed, valueOf, rangeOf, fieldInRange, fieldsInRange, round, roundSigned, indexed, fourFit, paacFits, termsFit}
+use Rattle.shares.specs.Shares.{wholeShare, weighted}
+use Rattle.sheet.specs.Sheet.{peakShare, signed, valueOf, rangeOf, fieldInRange, fieldsInRange, round, roundSigned, indexed, fourFit, paacFits, termsFit}
 use Rattle.benchmark.specs.declared.Benchmarks.{Benchmarks}
-use Rattle.benchmark.specs.Benchmark.{benchmark, wc, pc, oc, nc, paenc, headroom, panc, figure, figures, ocsFit, ordered, setCheck, benchmarksOf}
+use Rattle.benchmark.specs.Benchmark.{benchmark, wc, pc, oc, nc, paenc, headroom, panc, figure, figures, ocsFit, ordered, setCheck}
 use Rattle.benchmark.specs.Common.{costsAt, sumFrom, common, commonAt, commons}
 use Rattle.tariff.specs.Tariff.{tariffOf, recordCheck, validTariff, validKind, singleRegister, economy7, multiRegister, ratesWithin, zeroFrom, within, rising}
-use Rattle.shares.specs.Shares.{weighted}
 use Rattle.charge.specs.Charge.{arrangement, tierCharge, monthCharge, charge}
 use Rattle.charge.specs.Tiers.{tiersOf}
 use Rattle.cap.specs.Cap.{maximum, charged, capped, excess}
 use Rattle.cap.specs.Corners.{cornersTo}
 use Rattle.cap.proofs.Scanned.{scannedMonths}
-use Rattle.verdict.specs.Cells.{offered, cellNumbers, tariffNumbers, cellCount, Verdict, opens, over, verdict}
+use Rattle.verdict.specs.Cells.{offered, cellNumbers, tariffNumbers, cellCount, Verdict, opens, over}
 use Rattle.verdict.proofs.Scanned.{scannedBelow, scannedVerdict}
-use Rattle.reference.specs.SheetS.{times, sheetS, withSplit, periodS, flat, tiered, economySeven}
+use Rattle.reference.specs.SheetS.{times, sheetS, periodS, flat, tiered, economySeven}
 use Rattle.reference.specs.Starred.{Starred, firstOther, verdictOn, excessOf, tenfold}
-use Rattle.reference.proofs.Figures.{known, is-known, on-known}
+use Rattle.reference.proofs.Scanning.{formed, is-formed, by-scan}
+use Rattle.reference.proofs.Figures.{chargesS, charges-of-s, days-of-s, is-580}
 
--- sheet S has the split 580
-pub is-580 : sheetS ≡ withSplit 580
+-- the figures of sheet S, worked out
+abbrev known : Benchmarks
+known = formed sheetS periodS chargesS 92
+
+charges-are : figures sheetS ≡ chargesS
+charges-are = ap figures is-580 ∙ charges-of-s 580
+
+split : peakShare sheetS ≤ wholeShare
 unfolding sheetS times
-is-580 = refl
+split = omega arith
 
 -- a verdict by the scan, on the known figures
-by-known : (x : List ℕ) (v : Verdict) → validTariff (tariffOf x) ≡ true → scannedVerdict (known 580) (tariffOf x) ≡ v → verdictOn x ≡ v
-by-known x v valid e = ap (λ s. verdict (benchmarksOf s periodS) (tariffOf x)) is-580 ∙ on-known 580 (omega arith) x v valid e
+on-known : (x : List ℕ) (v : Verdict) → validTariff (tariffOf x) ≡ true → scannedVerdict known (tariffOf x) ≡ v → verdictOn x ≡ v
+on-known = by-scan sheetS periodS chargesS 92 charges-are days-of-s split
 
 -- the excess in region 0 with method 1, on the known figures
-by-figures : (x months : List ℕ) (d : ℤ) → excess (tariffNumbers (known 580) (tariffOf x) firstOther) (tariffOf x) months ≡ d → excessOf x months ≡ d
-by-figures x months d e = ap (λ (b : Benchmarks). excess (tariffNumbers b (tariffOf x) firstOther) (tariffOf x) months) (ap (λ s. benchmarksOf s periodS) is-580 ∙ is-known 580) ∙ e
+by-figures : (x months : List ℕ) (d : ℤ) → excess (tariffNumbers known (tariffOf x) firstOther) (tariffOf x) months ≡ d → excessOf x months ≡ d
+by-figures x months d e = ap (λ (b : Benchmarks). excess (tariffNumbers b (tariffOf x) firstOther) (tariffOf x) months) (is-formed sheetS periodS chargesS 92 charges-are days-of-s) ∙ e
 
 -- the starred verdicts, by the scan
 record Scanned (judge : List ℕ → Verdict) : Type 0 where
@@ -50,8 +57,8 @@ record Scanned (judge : List ℕ → Verdict) : Type 0 where
   a-mill-over : judge (tiered 0 165510 5 0) ≡ over firstOther (5 ∷ 5 ∷ 5 ∷ []) (tenfold 54000000)
   economy-over : judge (economySeven 23000 18000 12250) ≡ over firstOther (10000 ∷ 10000 ∷ 10000 ∷ []) (tenfold 367800000000)
 
-computed : Scanned (λ x. scannedVerdict (known 580) (tariffOf x))
-unfolding scannedVerdict scannedBelow offered bit cellNumbers arrangement scannedMonths cornersTo tiersOf scan tierCharge weighted monthCharge charge maximum charged capped excess sum total cellCount ones onesIn known times
+computed : Scanned (λ x. scannedVerdict known (tariffOf x))
+unfolding scannedVerdict scannedBelow offered bit cellNumbers arrangement scannedMonths cornersTo tiersOf scan tierCharge weighted monthCharge charge maximum charged capped excess sum total cellCount ones onesIn sheetS times
 computed =
     record {
       within = refl;
@@ -65,11 +72,11 @@ computed =
 
 -- 300 kWh in one month, and 5 kWh in each
 below : excessOf (tiered 20000 20000 100 15000) (300 ∷ 0 ∷ 0 ∷ []) ≡ pos 0 -ℤ tenfold 3346470000000
-unfolding cellNumbers arrangement tierCharge charge maximum charged capped excess sum total known times
+unfolding cellNumbers arrangement tierCharge charge maximum charged capped excess sum total sheetS times
 below = by-figures (tiered 20000 20000 100 15000) (300 ∷ 0 ∷ 0 ∷ []) _ refl
 
 nought : excessOf (tiered 0 165509 5 0) (5 ∷ 5 ∷ 5 ∷ []) ≡ pos 0
-unfolding cellNumbers arrangement tierCharge charge maximum charged capped excess sum total known times
+unfolding cellNumbers arrangement tierCharge charge maximum charged capped excess sum total sheetS times
 nought = by-figures (tiered 0 165509 5 0) (5 ∷ 5 ∷ 5 ∷ []) _ refl
 
 -- THE TABLE
@@ -85,14 +92,14 @@ starred =
       credit-nil = refl;
       credit-m = refl;
       economy-m = refl;
-      within = by-known (flat 23000 18000) _ refl (computed .within);
-      just-within = by-known (flat 23960 18000) _ refl (computed .just-within);
-      just-over = by-known (flat 23961 18000) _ refl (computed .just-over);
-      tiers-over = by-known (tiered 20000 20000 100 15000) _ refl (computed .tiers-over);
+      within = on-known (flat 23000 18000) _ refl (computed .within);
+      just-within = on-known (flat 23960 18000) _ refl (computed .just-within);
+      just-over = on-known (flat 23961 18000) _ refl (computed .just-over);
+      tiers-over = on-known (tiered 20000 20000 100 15000) _ refl (computed .tiers-over);
       one-month-below = below;
-      at-the-cap = by-known (tiered 0 165509 5 0) _ refl (computed .at-the-cap);
+      at-the-cap = on-known (tiered 0 165509 5 0) _ refl (computed .at-the-cap);
       excess-nought = nought;
-      a-mill-over = by-known (tiered 0 165510 5 0) _ refl (computed .a-mill-over);
-      economy-over = by-known (economySeven 23000 18000 12250) _ refl (computed .economy-over);
+      a-mill-over = on-known (tiered 0 165510 5 0) _ refl (computed .a-mill-over);
+      economy-over = on-known (economySeven 23000 18000 12250) _ refl (computed .economy-over);
       records = (refl, refl, refl);
     }

@@ -1,6 +1,6 @@
 // The cost sheet: 96 words, the number that each stands for and its range, and the eighteen indexed terms, worked out from fields 0 to 36.
 // Promise: `fields_in_range` is refusal 2 and `terms_fit` refusal 4, turned round; each term is Round(baseline × current, initial), and
-// `smncc_of` is SMNCC with its sign. What the layer above may use: the terms' names and `smncc`, `Ranged` and `Indexed` of
+// `smncc_of` is SMNCC with its sign. What the layer above may use: the terms' names, `smncc` and `peakShare`, `Ranged` and `Indexed` of
 // specs/Ranged.antt, the bounds in proofs/Bounds.antt, and what depends on fields 0 to 36 alone, proofs/CommonFields.antt.
 ghost use mathlib.Core.Path.{_≡_};
 ghost use mathlib.Core.Bool.{true};

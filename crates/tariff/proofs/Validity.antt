@@ -10,8 +10,8 @@ use lib.ListN.{getD, take}
 use borrow.Author.Tests.{leb-true, ltb-true, eqb-true}
 use Rattle.laws.specs.Notions.{sum}
 use Rattle.laws.proofs.Every.{and-left, and-right, every-at}
-use Rattle.tariff.specs.declared.Tariff.{Tariff}
 use Rattle.shares.specs.Shares.{wholeShare}
+use Rattle.tariff.specs.declared.Tariff.{Tariff}
 use Rattle.tariff.specs.Tariff.{rateMost, standingMost, stepMost, ratesWithin, zeroFrom, within, rising, singleRegister, economy7, multiRegister, validKind, validTariff}
 
 -- the parts of joined tests that hold

@@ -6,10 +6,10 @@ use Prim.Native.Nat.{ℕ, _+_, _-_}
 use lib.Dec.{leb, ltb, eqb}
 use lib.ListN.{length, getD, take}
 use Rattle.laws.specs.Notions.{every, sum}
-use Rattle.shares.specs.Shares.{wholeShare}
 use Rattle.refusal.specs.declared.Check.{Check}
 use Rattle.refusal.specs.declared.Check.the-variants.{Pass}
 use Rattle.refusal.specs.Checks.{unless}
+use Rattle.shares.specs.Shares.{wholeShare}
 use Rattle.tariff.specs.declared.Tariff.{Tariff}
 
 -- the most of a rate, of a standing charge and of a step

@@ -26,7 +26,7 @@ use Rattle.trial.specs.Places.{fell, fellFrom}
 use Rattle.trial.proofs.Trials.{trial-told}
 
 -- what may stand in a place under a sheet does not fall under it
-stays : (s : Sheet) (q : State) (p : Place) → MayStandAs (some s) q p
+pub stays : (s : Sheet) (q : State) (p : Place) → MayStandAs (some s) q p
     → (isOpen (heldIn q (tariffIn p)) && isDraft (heldIn (stateUnder (figuresOf s) q (tariffIn p)) (tariffIn p))) ≡ false
 stays s Empty p h = refl
 stays s Draft p h = refl

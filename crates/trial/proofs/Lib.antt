@@ -1,2 +1,3 @@
 pub mod Trials
 pub mod InForce
+pub mod Splits

@@ -10,11 +10,12 @@ use lib.IntN.{pos}
 use Rattle.laws.proofs.Pieces.{scan}
 use Rattle.laws.specs.Notions.{every, sum, total, tabulate, tabulateFrom, bit}
 use Rattle.calendar.specs.Calendar.{periodDays, periodInRange, monthBegins, lengthAt, monthLength, leapYear}
-use Rattle.sheet.specs.Sheet.{signed, valueOf, rangeOf, fieldInRange, fieldsInRange, round, roundSigned, indexed, fourFit, paacFits, termsFit}
-use Rattle.benchmark.specs.Benchmark.{benchmark, wc, pc, oc, nc, paenc, headroom, panc, figure, figures, ocsFit, ordered, setCheck, benchmarksOf}
+use Rattle.shares.specs.Shares.{wholeShare, weighted}
+use Rattle.sheet.specs.Sheet.{peakShare, signed, valueOf, rangeOf, fieldInRange, fieldsInRange, round, roundSigned, indexed, fourFit, paacFits, termsFit}
+use Rattle.benchmark.specs.declared.Benchmarks.{Benchmarks}
+use Rattle.benchmark.specs.Benchmark.{benchmark, wc, pc, oc, nc, paenc, headroom, panc, figure, figures, ocsFit, ordered, setCheck}
 use Rattle.benchmark.specs.Common.{costsAt, sumFrom, common, commonAt, commons}
 use Rattle.tariff.specs.Tariff.{tariffOf, recordCheck, validTariff, validKind, singleRegister, economy7, multiRegister, ratesWithin, zeroFrom, within, rising}
-use Rattle.shares.specs.Shares.{wholeShare, weighted}
 use Rattle.charge.specs.Charge.{arrangement, tierCharge, monthCharge, charge}
 use Rattle.charge.specs.Tiers.{tiersOf}
 use Rattle.cap.specs.Cap.{maximum, charged, capped, excess}
@@ -22,17 +23,21 @@ use Rattle.cap.specs.Corners.{cornersTo}
 use Rattle.cap.proofs.Scanned.{scannedMonths}
 use Rattle.verdict.specs.Cells.{cell, offered, cellNumbers, cellCount, Verdict, opens, over}
 use Rattle.verdict.proofs.Scanned.{scannedBelow, scannedVerdict}
-use Rattle.reference.proofs.Scanning.{by-scan}
+use Rattle.reference.proofs.Scanning.{formed, by-scan}
 use Rattle.unlike.specs.SheetU.{networks, sheetU, periodU, threeTiers, peakAt, threeRegisters, allInOne, loneField, lonePair}
 use Rattle.unlike.specs.Unlike.{Unlike, verdictOn}
-use Rattle.unlike.proofs.Figures.{known, is-known}
+use Rattle.unlike.proofs.Figures.{chargesU, charges-of-u, days-of-u}
 
-split : known .peak ≤ wholeShare
-unfolding known
+-- the figures of sheet U, worked out
+abbrev known : Benchmarks
+known = formed sheetU periodU chargesU 60
+
+split : peakShare sheetU ≤ wholeShare
+unfolding sheetU networks
 split = omega arith
 
 on-known : (x : List ℕ) (v : Verdict) → validTariff (tariffOf x) ≡ true → scannedVerdict known (tariffOf x) ≡ v → verdictOn x ≡ v
-on-known x v = by-scan (benchmarksOf sheetU periodU) known is-known split x v
+on-known = by-scan sheetU periodU chargesU 60 charges-of-u days-of-u split
 
 -- the verdicts, by the scan
 record Scanned (judge : List ℕ → Verdict) : Type 0 where
@@ -44,7 +49,7 @@ record Scanned (judge : List ℕ → Verdict) : Type 0 where
   all-in-one : judge allInOne ≡ opens 2
 
 computed : Scanned (λ x. scannedVerdict known (tariffOf x))
-unfolding scannedVerdict scannedBelow offered bit cellNumbers arrangement scannedMonths cornersTo tiersOf scan tierCharge weighted monthCharge charge maximum charged capped excess sum total cellCount ones onesIn known
+unfolding scannedVerdict scannedBelow offered bit cellNumbers arrangement scannedMonths cornersTo tiersOf scan tierCharge weighted monthCharge charge maximum charged capped excess sum total cellCount ones onesIn sheetU networks
 computed =
     record {
       tiers-over = refl;

@@ -3,9 +3,9 @@
 use mathlib.Core.Path.{_≡_, refl, sym, subst₂}
 use Rattle.laws.specs.Notions.{every, sum, total, tabulate, tabulateFrom, bit}
 use Rattle.calendar.specs.Calendar.{periodDays, monthBegins, lengthAt, monthLength, leapYear}
+use Rattle.shares.specs.Shares.{weighted}
 use Rattle.sheet.specs.Sheet.{signed, valueOf, round, roundSigned, indexed}
 use Rattle.benchmark.specs.Benchmark.{benchmark, wc, pc, oc, nc, paenc, headroom, panc, figure, figures, benchmarksOf}
-use Rattle.shares.specs.Shares.{weighted}
 use Rattle.charge.specs.Charge.{arrangement, tierCharge, charge}
 use Rattle.cap.specs.Cap.{maximum, charged, capped}
 use Rattle.verdict.specs.Cells.{offered, cellNumbers}

@@ -12,8 +12,8 @@ use lib.Dec.{eqb}
 use lib.ListN.{length, getD}
 use Rattle.laws.specs.Notions.{sum}
 use Rattle.laws.proofs.Parts.{four}
-use Rattle.tariff.specs.declared.Tariff.{Tariff}
 use Rattle.shares.specs.Shares.{wholeShare, weighted}
+use Rattle.tariff.specs.declared.Tariff.{Tariff}
 use Rattle.tariff.specs.Tariff.{rateMost}
 use Rattle.tariff.proofs.Validity.{valid-rates, rates-at, by-kind, valid-economy7, valid-multi}
 use Rattle.charge.specs.declared.Tiers.{Tiers}

@@ -10,11 +10,11 @@ use borrow.Author.Needs.{needs}
 use lib.ListN.{length, take, drop, getD}
 use Rattle.laws.proofs.Bounds.{take-most}
 use Rattle.laws.proofs.Lists.{drop-take, drop-end}
+use Rattle.shares.specs.Shares.{weighted}
+use Rattle.shares.proofs.Weighted.{weighted-most}
 use Rattle.tariff.specs.Tariff.{rateMost}
 use Rattle.tariff.proofs.Validity.{rates-at}
-use Rattle.shares.specs.Shares.{weighted}
 use Rattle.charge.specs.Most.{scaledRateMost}
-use Rattle.shares.proofs.Weighted.{weighted-most}
 use Rattle.charge.proofs.weighted_rate.Statement.{statement}
 use Rattle.charge.proofs.weighted_rate.Tie as tie
 

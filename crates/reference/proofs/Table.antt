@@ -21,10 +21,10 @@ use Rattle.charge.specs.Tiers.{tiersOf}
 use Rattle.cap.specs.Cap.{maximum, charged, capped, excess}
 use Rattle.cap.specs.Corners.{cornersTo}
 use Rattle.cap.proofs.Scanned.{scannedMonths}
-use Rattle.verdict.specs.Cells.{offered, cellNumbers, tariffNumbers, cellCount, Verdict, opens, over}
+use Rattle.verdict.specs.Cells.{offered, cellNumbers, tariffNumbers, cellCount, Verdict}
 use Rattle.verdict.proofs.Scanned.{scannedBelow, scannedVerdict}
 use Rattle.reference.specs.SheetS.{times, sheetS, periodS, flat, tiered, economySeven}
-use Rattle.reference.specs.Starred.{Starred, firstOther, verdictOn, excessOf, tenfold}
+use Rattle.reference.specs.Starred.{StarredVerdicts, Starred, firstOther, verdictOn, excessOf, tenfold}
 use Rattle.reference.proofs.Scanning.{formed, is-formed, by-scan}
 use Rattle.reference.proofs.Figures.{chargesS, charges-of-s, days-of-s, is-580}
 
@@ -48,16 +48,7 @@ by-figures : (x months : List ℕ) (d : ℤ) → excess (tariffNumbers known (ta
 by-figures x months d e = ap (λ (b : Benchmarks). excess (tariffNumbers b (tariffOf x) firstOther) (tariffOf x) months) (is-formed sheetS periodS chargesS 92 charges-are days-of-s) ∙ e
 
 -- the starred verdicts, by the scan
-record Scanned (judge : List ℕ → Verdict) : Type 0 where
-  within : judge (flat 23000 18000) ≡ opens 28
-  just-within : judge (flat 23960 18000) ≡ opens 28
-  just-over : judge (flat 23961 18000) ≡ over firstOther (0 ∷ 0 ∷ 0 ∷ []) (tenfold 133200000)
-  tiers-over : judge (tiered 20000 20000 100 15000) ≡ over firstOther (100 ∷ 100 ∷ 100 ∷ []) (tenfold 253530000000)
-  at-the-cap : judge (tiered 0 165509 5 0) ≡ opens 28
-  a-mill-over : judge (tiered 0 165510 5 0) ≡ over firstOther (5 ∷ 5 ∷ 5 ∷ []) (tenfold 54000000)
-  economy-over : judge (economySeven 23000 18000 12250) ≡ over firstOther (10000 ∷ 10000 ∷ 10000 ∷ []) (tenfold 367800000000)
-
-computed : Scanned (λ x. scannedVerdict known (tariffOf x))
+computed : StarredVerdicts (λ x. scannedVerdict known (tariffOf x))
 unfolding scannedVerdict scannedBelow offered bit cellNumbers arrangement scannedMonths cornersTo tiersOf scan tierCharge weighted monthCharge charge maximum charged capped excess sum total cellCount ones onesIn sheetS times
 computed =
     record {
@@ -92,14 +83,17 @@ starred =
       credit-nil = refl;
       credit-m = refl;
       economy-m = refl;
-      within = on-known (flat 23000 18000) _ refl (computed .within);
-      just-within = on-known (flat 23960 18000) _ refl (computed .just-within);
-      just-over = on-known (flat 23961 18000) _ refl (computed .just-over);
-      tiers-over = on-known (tiered 20000 20000 100 15000) _ refl (computed .tiers-over);
+      verdicts =
+          record {
+            within = on-known (flat 23000 18000) _ refl (computed .within);
+            just-within = on-known (flat 23960 18000) _ refl (computed .just-within);
+            just-over = on-known (flat 23961 18000) _ refl (computed .just-over);
+            tiers-over = on-known (tiered 20000 20000 100 15000) _ refl (computed .tiers-over);
+            at-the-cap = on-known (tiered 0 165509 5 0) _ refl (computed .at-the-cap);
+            a-mill-over = on-known (tiered 0 165510 5 0) _ refl (computed .a-mill-over);
+            economy-over = on-known (economySeven 23000 18000 12250) _ refl (computed .economy-over);
+          };
       one-month-below = below;
-      at-the-cap = on-known (tiered 0 165509 5 0) _ refl (computed .at-the-cap);
       excess-nought = nought;
-      a-mill-over = on-known (tiered 0 165510 5 0) _ refl (computed .a-mill-over);
-      economy-over = on-known (economySeven 23000 18000 12250) _ refl (computed .economy-over);
       records = (refl, refl, refl);
     }

@@ -52,6 +52,20 @@ eightAre s region charges = every 8 (λ j. isWhole (benchmark s region (j / 4) (
 abbrev pub everywhere : ℕ → ℕ → ℕ → ℕ → Bool
 everywhere arrangement method level charge = every 14 (λ region. isWhole (benchmark sheetS region arrangement method level) charge)
 
+-- the verdicts on records, by whatever judges them
+pub record StarredVerdicts (judge : List ℕ → Verdict) : Type 0 where
+  -- standing charge 23,000, 23,960 and 23,961 with one rate of 18,000
+  pub within : judge (flat 23000 18000) ≡ opens 28
+  pub just-within : judge (flat 23960 18000) ≡ opens 28
+  pub just-over : judge (flat 23961 18000) ≡ over firstOther (0 ∷ 0 ∷ 0 ∷ []) (tenfold 133200000)
+  -- 20,000 to 100 kWh, then 15,000: over with 100 kWh in each month, by 70,425 mills (times 12,000 × m, which is 36,000,000)
+  pub tiers-over : judge (tiered 20000 20000 100 15000) ≡ over firstOther (100 ∷ 100 ∷ 100 ∷ []) (tenfold 253530000000)
+  -- 165,509 to 5 kWh, then 0: exactly at the cap with 5 kWh in each month, and one mill more is over
+  pub at-the-cap : judge (tiered 0 165509 5 0) ≡ opens 28
+  pub a-mill-over : judge (tiered 0 165510 5 0) ≡ over firstOther (5 ∷ 5 ∷ 5 ∷ []) (tenfold 54000000)
+  -- Economy 7, 58:42
+  pub economy-over : judge (economySeven 23000 18000 12250) ≡ over firstOther (10000 ∷ 10000 ∷ 10000 ∷ []) (tenfold 367800000000)
+
 pub record Starred : Type 0 where
   pub accepted : setCheck sheetS periodS ≡ Pass
   pub days : periodDays periodS ≡ 92
@@ -63,19 +77,9 @@ pub record Starred : Type 0 where
   pub credit-nil : everywhere 0 0 0 9418050 ≡ true
   pub credit-m : everywhere 0 0 1 66183090 ≡ true
   pub economy-m : everywhere 1 1 1 71135500 ≡ true
-  -- standing charge 23,000, 23,960 and 23,961 with one rate of 18,000
-  pub within : verdictOn (flat 23000 18000) ≡ opens 28
-  pub just-within : verdictOn (flat 23960 18000) ≡ opens 28
-  pub just-over : verdictOn (flat 23961 18000) ≡ over firstOther (0 ∷ 0 ∷ 0 ∷ []) (tenfold 133200000)
-  -- 20,000 to 100 kWh, then 15,000: over with 100 kWh in each month, by 70,425 mills, and below the cap with the same 300 kWh in one
-  -- month, by 929,575 mills (each times 12,000 × m, which is 36,000,000)
-  pub tiers-over : verdictOn (tiered 20000 20000 100 15000) ≡ over firstOther (100 ∷ 100 ∷ 100 ∷ []) (tenfold 253530000000)
+  pub verdicts : StarredVerdicts verdictOn
+  -- the tariff of `tiers-over` is below the cap with the same 300 kWh in one month, by 929,575 mills; that of `at-the-cap` has an excess of 0
   pub one-month-below : excessOf (tiered 20000 20000 100 15000) (300 ∷ 0 ∷ 0 ∷ []) ≡ pos 0 -ℤ tenfold 3346470000000
-  -- 165,509 to 5 kWh, then 0: exactly at the cap with 5 kWh in each month, and one mill more is over
-  pub at-the-cap : verdictOn (tiered 0 165509 5 0) ≡ opens 28
   pub excess-nought : excessOf (tiered 0 165509 5 0) (5 ∷ 5 ∷ 5 ∷ []) ≡ pos 0
-  pub a-mill-over : verdictOn (tiered 0 165510 5 0) ≡ over firstOther (5 ∷ 5 ∷ 5 ∷ []) (tenfold 54000000)
-  -- Economy 7, 58:42
-  pub economy-over : verdictOn (economySeven 23000 18000 12250) ≡ over firstOther (10000 ∷ 10000 ∷ 10000 ∷ []) (tenfold 367800000000)
   -- each of these records is a tariff
   pub records : (recordCheck (flat 23000 18000) ≡ Pass) × (recordCheck (tiered 20000 20000 100 15000) ≡ Pass) × (recordCheck (economySeven 23000 18000 12250) ≡ Pass)

@@ -2,11 +2,10 @@
 -- Assumes nothing.
 use mathlib.Core.Path.{_≡_, refl}
 use mathlib.Core.Bool.{true}
-use mathlib.Core.List.{List, [], _∷_}
+use mathlib.Core.List.{List}
 use Prim.Native.Nat.{ℕ, _≤_}
 use native.Mathlib.Omega.{arith}
 use lib.Count.{ones, onesIn}
-use lib.IntN.{pos}
 use Rattle.laws.proofs.Pieces.{scan}
 use Rattle.laws.specs.Notions.{every, sum, total, tabulate, tabulateFrom, bit}
 use Rattle.calendar.specs.Calendar.{periodDays, periodInRange, monthBegins, lengthAt, monthLength, leapYear}
@@ -21,11 +20,11 @@ use Rattle.charge.specs.Tiers.{tiersOf}
 use Rattle.cap.specs.Cap.{maximum, charged, capped, excess}
 use Rattle.cap.specs.Corners.{cornersTo}
 use Rattle.cap.proofs.Scanned.{scannedMonths}
-use Rattle.verdict.specs.Cells.{cell, offered, cellNumbers, cellCount, Verdict, opens, over}
+use Rattle.verdict.specs.Cells.{offered, cellNumbers, cellCount, Verdict}
 use Rattle.verdict.proofs.Scanned.{scannedBelow, scannedVerdict}
 use Rattle.reference.proofs.Scanning.{formed, by-scan}
 use Rattle.unlike.specs.SheetU.{networks, sheetU, periodU, threeTiers, peakAt, threeRegisters, allInOne, loneField, lonePair}
-use Rattle.unlike.specs.Unlike.{Unlike, verdictOn}
+use Rattle.unlike.specs.Unlike.{UnlikeVerdicts, Unlike, verdictOn}
 use Rattle.unlike.proofs.Figures.{chargesU, charges-of-u, days-of-u}
 
 -- the figures of sheet U, worked out
@@ -40,15 +39,7 @@ on-known : (x : List ℕ) (v : Verdict) → validTariff (tariffOf x) ≡ true �
 on-known = by-scan sheetU periodU chargesU 60 charges-of-u days-of-u split
 
 -- the verdicts, by the scan
-record Scanned (judge : List ℕ → Verdict) : Type 0 where
-  tiers-over : judge (threeTiers 27000) ≡ over (cell 9 0) (400 ∷ 400 ∷ []) (pos 549918000000)
-  tiers-within : judge (threeTiers 26000) ≡ opens 2
-  economy-over : judge (peakAt 16100) ≡ over (cell 0 1) (10000 ∷ 10000 ∷ []) (pos 58795269600000)
-  registers-over : judge (threeRegisters 15000) ≡ over (cell 3 1) (10000 ∷ 10000 ∷ []) (pos 105623468400000)
-  registers-within : judge (threeRegisters 14000) ≡ opens 4
-  all-in-one : judge allInOne ≡ opens 2
-
-computed : Scanned (λ x. scannedVerdict known (tariffOf x))
+computed : UnlikeVerdicts (λ x. scannedVerdict known (tariffOf x))
 unfolding scannedVerdict scannedBelow offered bit cellNumbers arrangement scannedMonths cornersTo tiersOf scan tierCharge weighted monthCharge charge maximum charged capped excess sum total cellCount ones onesIn sheetU networks
 computed =
     record {
@@ -73,12 +64,15 @@ unlike =
       network-traced = (refl, refl);
       first-region = refl;
       last-region = refl;
-      tiers-over = on-known (threeTiers 27000) _ refl (computed .tiers-over);
-      tiers-within = on-known (threeTiers 26000) _ refl (computed .tiers-within);
-      economy-over = on-known (peakAt 16100) _ refl (computed .economy-over);
-      registers-over = on-known (threeRegisters 15000) _ refl (computed .registers-over);
-      registers-within = on-known (threeRegisters 14000) _ refl (computed .registers-within);
-      all-in-one = on-known allInOne _ refl (computed .all-in-one);
+      verdicts =
+          record {
+            tiers-over = on-known (threeTiers 27000) _ refl (computed .tiers-over);
+            tiers-within = on-known (threeTiers 26000) _ refl (computed .tiers-within);
+            economy-over = on-known (peakAt 16100) _ refl (computed .economy-over);
+            registers-over = on-known (threeRegisters 15000) _ refl (computed .registers-over);
+            registers-within = on-known (threeRegisters 14000) _ refl (computed .registers-within);
+            all-in-one = on-known allInOne _ refl (computed .all-in-one);
+          };
       records = (refl, refl, refl, refl);
       each-pair = refl;
     }

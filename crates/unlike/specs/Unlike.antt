@@ -27,6 +27,19 @@ abbrev pub isFive : Check → Bool
 isFive Pass = false
 isFive (Refuse n) = eqb n 5
 
+-- the verdicts on records, by whatever judges them
+pub record UnlikeVerdicts (judge : List ℕ → Verdict) : Type 0 where
+  -- three tiers: over in region 9 and not in 4, most at the second step
+  pub tiers-over : judge (threeTiers 27000) ≡ over (cell 9 0) (400 ∷ 400 ∷ []) (pos 549918000000)
+  pub tiers-within : judge (threeTiers 26000) ≡ opens 2
+  -- Economy 7: over by Other and not by Standard Credit
+  pub economy-over : judge (peakAt 16100) ≡ over (cell 0 1) (10000 ∷ 10000 ∷ []) (pos 58795269600000)
+  -- three registers: over by Other and not by Standard Credit
+  pub registers-over : judge (threeRegisters 15000) ≡ over (cell 3 1) (10000 ∷ 10000 ∷ []) (pos 105623468400000)
+  pub registers-within : judge (threeRegisters 14000) ≡ opens 4
+  -- a register without consumption costs nothing
+  pub all-in-one : judge allInOne ≡ opens 2
+
 pub record Unlike : Type 0 where
   pub accepted : setCheck sheetU periodU ≡ Pass
   pub days : periodDays periodU ≡ 60
@@ -38,16 +51,7 @@ pub record Unlike : Type 0 where
   -- the first region and the last
   pub first-region : eightAre sheetU 0 (11420014 ∷ 68981521 ∷ 10886946 ∷ 67489095 ∷ 12780546 ∷ 77414326 ∷ 12223106 ∷ 75779657 ∷ []) ≡ true
   pub last-region : eightAre sheetU 13 (11287321 ∷ 68583575 ∷ 10756465 ∷ 67097782 ∷ 13046024 ∷ 77945243 ∷ 12484160 ∷ 76301726 ∷ []) ≡ true
-  -- three tiers: over in region 9 and not in 4, most at the second step
-  pub tiers-over : verdictOn (threeTiers 27000) ≡ over (cell 9 0) (400 ∷ 400 ∷ []) (pos 549918000000)
-  pub tiers-within : verdictOn (threeTiers 26000) ≡ opens 2
-  -- Economy 7: over by Other and not by Standard Credit
-  pub economy-over : verdictOn (peakAt 16100) ≡ over (cell 0 1) (10000 ∷ 10000 ∷ []) (pos 58795269600000)
-  -- three registers: over by Other and not by Standard Credit
-  pub registers-over : verdictOn (threeRegisters 15000) ≡ over (cell 3 1) (10000 ∷ 10000 ∷ []) (pos 105623468400000)
-  pub registers-within : verdictOn (threeRegisters 14000) ≡ opens 4
-  -- a register without consumption costs nothing
-  pub all-in-one : verdictOn allInOne ≡ opens 2
+  pub verdicts : UnlikeVerdicts verdictOn
   -- each of these records is a tariff
   pub records : (recordCheck (threeTiers 27000) ≡ Pass) × (recordCheck (peakAt 16100) ≡ Pass) × (recordCheck (threeRegisters 15000) ≡ Pass) × (recordCheck allInOne ≡ Pass)
   -- one pair of benchmarks out of order is enough for refusal 5, whichever of the 56 it is

@@ -65,7 +65,7 @@ pub low-put : checked refused (recordCheck low) accepted ≡ accepted
 low-put = passed (starred .records .0)
 
 pub low-opens : verdictAnswer (verdict (figuresOf quarter) (tariffOf low)) ≡ opened 28
-low-opens = ap verdictAnswer (starred .within)
+low-opens = ap verdictAnswer (starred .verdicts .within)
 
 no-fields-set : setAnswer noFields ≡ refused 1
 unfolding setCheck
@@ -114,7 +114,7 @@ worked =
           (then quarter-set
           (then (passed close-record)
           (then low-put
-          (then (ap verdictAnswer (starred .just-within))
+          (then (ap verdictAnswer (starred .verdicts .just-within))
           (then low-opens
           (then (passed october-accepted) (then (closed-if october close _ october-close) (then (closed-if october low _ october-low) ended))))))));
       split-falls =
@@ -125,8 +125,8 @@ worked =
           (then seven-opens
           (then low-opens-too
           (then quarter-set
-          (then (closed-if quarter dayDear _ (starred .economy-over))
-          (then (closed-if quarter low _ (starred .within)) (then (opened-if quarter dayDear _ (starred .economy-over)) ended)))))))));
+          (then (closed-if quarter dayDear _ (starred .verdicts .economy-over))
+          (then (closed-if quarter low _ (starred .verdicts .within)) (then (opened-if quarter dayDear _ (starred .verdicts .economy-over)) ended)))))))));
       again = told (then quarter-set (then low-put (then low-opens (then refl (then low-opens ended)))));
       refused-between = told (then quarter-set (then low-put (then low-opens (then no-fields-set (then refl ended)))));
       codes = told (then refl (then refl (then refl (then refl ended))));
@@ -134,10 +134,10 @@ worked =
       put-over =
           told
           (then (passed high-record)
-          (then refl (then refl (then quarter-set (then (ap verdictAnswer (starred .just-over)) (then low-put (then low-opens ended)))))));
+          (then refl (then refl (then quarter-set (then (ap verdictAnswer (starred .verdicts .just-over)) (then low-put (then low-opens ended)))))));
       quoted = ap (λ b. quoteOf b 7 0 1 (300 ∷ 0 ∷ 0 ∷ [])) two-calls ∙ quote-told;
       tiers =
           told
           (then quarter-set
-          (then (passed (starred .records .1)) (then (ap verdictAnswer (starred .tiers-over)) (then refl (then refl ended)))));
+          (then (passed (starred .records .1)) (then (ap verdictAnswer (starred .verdicts .tiers-over)) (then refl (then refl ended)))));
     }

@@ -46,7 +46,7 @@ makes ended = refl
 makes (then {b} {d} {a} {acts} x e q m) = ap (λ c. bookAfter c (map call acts)) (made b (call a) x e q) ∙ makes m
 
 close-opens : verdictAnswer (verdict (figuresOf quarter) (tariffOf close)) ≡ opened 28
-close-opens = ap verdictAnswer (starred .just-within)
+close-opens = ap verdictAnswer (starred .verdicts .just-within)
 
 -- the five calls before each trial
 abbrev twoOpened : Book
@@ -112,13 +112,13 @@ tried =
           (judged october (tariffOf close) _ october-close) refl;
       split-falls =
           told-by otherSplit quarter (starred .accepted) _ _ _ _ _ _ 1 (ap (λ b. b .places) other-left)
-          (judged quarter (tariffOf dayDear) _ (starred .economy-over)) (judged quarter (tariffOf low) _ (starred .within)) refl refl;
+          (judged quarter (tariffOf dayDear) _ (starred .verdicts .economy-over)) (judged quarter (tariffOf low) _ (starred .verdicts .within)) refl refl;
       draft-stays =
           told-by oneClosed october october-accepted _ _ _ _ _ _ 0 (ap (λ b. b .places) closed-left)
           refl (judged october (tariffOf low) _ october-low) refl refl;
       same-sheet =
           told-by twoOpen quarter (starred .accepted) _ _ _ _ _ _ 0 (ap (λ b. b .places) two-left)
-          (judged quarter (tariffOf close) _ (starred .just-within)) (judged quarter (tariffOf low) _ (starred .within)) refl refl;
+          (judged quarter (tariffOf close) _ (starred .verdicts .just-within)) (judged quarter (tariffOf low) _ (starred .verdicts .within)) refl refl;
       no-sheet = rw october-accepted;
       refused-1 = trial-refused twoOpen noFields 1 (refused-sheets .1);
       refused-2 = (trial-refused twoOpen (withField 94 0) 2 (refused-sheets .2), trial-refused twoOpen bothWrong 2 (refused-sheets .3), trial-refused twoOpen (splitAt 1001) 2 (refused-sheets .0));

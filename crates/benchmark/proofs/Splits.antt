@@ -8,7 +8,7 @@ use lib.IntN.{ℤ, pos, natAbs, _+ℤ_, _*ℤ_}
 use Rattle.laws.proofs.Lists.{tabulate-alike}
 use Rattle.calendar.specs.declared.Period.{Period}
 use Rattle.calendar.specs.Calendar.{periodDays}
-use Rattle.sheet.specs.Sheet.{field, peakShare, roundSigned}
+use Rattle.sheet.specs.Sheet.{field, peakField, peakShare, roundSigned}
 use Rattle.sheet.specs.CommonFields.{Agree}
 use Rattle.benchmark.specs.declared.Benchmarks.{Benchmarks}
 use Rattle.benchmark.specs.Benchmark.{four, nc, panc, benchmark, figure, figures, benchmarksOf}
@@ -21,7 +21,7 @@ figuresUnder tenths b = record { charges = b .charges; levels = b .levels; peak 
 
 -- alike in all fields before the peak share
 abbrev pub AlikeButSplit : List ℕ → List ℕ → Type 0
-AlikeButSplit s t = (k : ℕ) → k < 95 → field s k ≡ field t k
+AlikeButSplit s t = (k : ℕ) → k < peakField → field s k ≡ field t k
 
 module _ (s t : List ℕ) (same : AlikeButSplit s t) where
   common-fields : Agree s t

@@ -1,11 +1,13 @@
 -- The charges of sheet S, worked out once for every split, and of the sheet with no costs but NC; the days of their periods.
 -- Assumes nothing.
-use mathlib.Core.Path.{_≡_, refl}
+use mathlib.Core.Path.{_≡_, refl, _∙_, ap}
 use mathlib.Core.List.{List, [], _∷_}
-use Prim.Native.Nat.{ℕ}
+use Prim.Native.Nat.{ℕ, _≤_}
+use native.Mathlib.Omega.{arith}
 use Rattle.laws.specs.Notions.{tabulate, tabulateFrom}
 use Rattle.calendar.specs.Calendar.{periodDays, monthBegins, lengthAt, monthLength, leapYear}
-use Rattle.sheet.specs.Sheet.{signed, valueOf, round, roundSigned, indexed}
+use Rattle.shares.specs.Shares.{wholeShare}
+use Rattle.sheet.specs.Sheet.{peakShare, signed, valueOf, round, roundSigned, indexed}
 use Rattle.benchmark.specs.Benchmark.{benchmark, wc, pc, oc, nc, paenc, headroom, panc, figure, figures}
 use Rattle.reference.specs.SheetS.{times, sheetS, withSplit, periodS}
 use Rattle.reference.specs.Splits.{evenSheet, january}
@@ -22,10 +24,17 @@ pub days-of-s : periodDays periodS ≡ 92
 unfolding periodDays monthBegins lengthAt monthLength leapYear
 days-of-s = refl
 
--- sheet S has the split 580
-pub is-580 : sheetS ≡ withSplit 580
+-- sheet S itself has the split 580
+is-580 : sheetS ≡ withSplit 580
 unfolding sheetS times
 is-580 = refl
+
+pub charges-at-580 : figures sheetS ≡ chargesS
+charges-at-580 = ap figures is-580 ∙ charges-of-s 580
+
+pub split-of-s : peakShare sheetS ≤ wholeShare
+unfolding sheetS times
+split-of-s = omega arith
 
 abbrev pub evenCharges : List ℕ
 evenCharges = times 56 (7440000 ∷ 22440000 ∷ [])

@@ -3,15 +3,14 @@
 use mathlib.Core.Path.{_≡_, refl, _∙_, ap}
 use mathlib.Core.Bool.{true}
 use mathlib.Core.List.{List, [], _∷_}
-use Prim.Native.Nat.{ℕ, _≤_}
-use native.Mathlib.Omega.{arith}
+use Prim.Native.Nat.{ℕ}
 use lib.Count.{ones, onesIn}
 use lib.IntN.{ℤ, pos, _-ℤ_}
 use Rattle.laws.proofs.Pieces.{scan}
 use Rattle.laws.specs.Notions.{every, sum, total, tabulate, tabulateFrom, bit}
 use Rattle.calendar.specs.Calendar.{periodDays, periodInRange, monthBegins, lengthAt, monthLength, leapYear}
-use Rattle.shares.specs.Shares.{wholeShare, weighted}
-use Rattle.sheet.specs.Sheet.{peakShare, signed, valueOf, rangeOf, fieldInRange, fieldsInRange, round, roundSigned, indexed, fourFit, paacFits, termsFit}
+use Rattle.shares.specs.Shares.{weighted}
+use Rattle.sheet.specs.Sheet.{signed, valueOf, rangeOf, fieldInRange, fieldsInRange, round, roundSigned, indexed, fourFit, paacFits, termsFit}
 use Rattle.benchmark.specs.declared.Benchmarks.{Benchmarks}
 use Rattle.benchmark.specs.Benchmark.{benchmark, wc, pc, oc, nc, paenc, headroom, panc, figure, figures, ocsFit, ordered, setCheck}
 use Rattle.benchmark.specs.Common.{costsAt, sumFrom, common, commonAt, commons}
@@ -26,26 +25,19 @@ use Rattle.verdict.proofs.Scanned.{scannedBelow, scannedVerdict}
 use Rattle.reference.specs.SheetS.{times, sheetS, periodS, flat, tiered, economySeven}
 use Rattle.reference.specs.Starred.{StarredVerdicts, Starred, firstOther, verdictOn, excessOf, tenfold}
 use Rattle.reference.proofs.Scanning.{formed, is-formed, by-scan}
-use Rattle.reference.proofs.Figures.{chargesS, charges-of-s, days-of-s, is-580}
+use Rattle.reference.proofs.Figures.{chargesS, charges-at-580, split-of-s, days-of-s}
 
 -- the figures of sheet S, worked out
 abbrev known : Benchmarks
 known = formed sheetS periodS chargesS 92
 
-charges-are : figures sheetS ≡ chargesS
-charges-are = ap figures is-580 ∙ charges-of-s 580
-
-split : peakShare sheetS ≤ wholeShare
-unfolding sheetS times
-split = omega arith
-
 -- a verdict by the scan, on the known figures
 on-known : (x : List ℕ) (v : Verdict) → validTariff (tariffOf x) ≡ true → scannedVerdict known (tariffOf x) ≡ v → verdictOn x ≡ v
-on-known = by-scan sheetS periodS chargesS 92 charges-are days-of-s split
+on-known = by-scan sheetS periodS chargesS 92 charges-at-580 days-of-s split-of-s
 
 -- the excess in region 0 with method 1, on the known figures
 by-figures : (x months : List ℕ) (d : ℤ) → excess (tariffNumbers known (tariffOf x) firstOther) (tariffOf x) months ≡ d → excessOf x months ≡ d
-by-figures x months d e = ap (λ (b : Benchmarks). excess (tariffNumbers b (tariffOf x) firstOther) (tariffOf x) months) (is-formed sheetS periodS chargesS 92 charges-are days-of-s) ∙ e
+by-figures x months d e = ap (λ (b : Benchmarks). excess (tariffNumbers b (tariffOf x) firstOther) (tariffOf x) months) (is-formed sheetS periodS chargesS 92 charges-at-580 days-of-s) ∙ e
 
 -- the starred verdicts, by the scan
 computed : StarredVerdicts (λ x. scannedVerdict known (tariffOf x))

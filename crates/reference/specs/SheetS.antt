@@ -4,6 +4,7 @@ use mathlib.Core.List.{List, [], _∷_, _++_}
 use Prim.Native.Nat.{ℕ, zero, suc}
 use lib.ListN.{set}
 use Rattle.calendar.specs.declared.Period.{Period}
+use Rattle.sheet.specs.Sheet.{peakField}
 
 -- a list n times over
 unfoldable pub times : ℕ → List ℕ → List ℕ
@@ -27,7 +28,7 @@ sheetS =
 
 -- the same with another peak share
 abbrev pub withSplit : ℕ → List ℕ
-withSplit tenths = set sheetS 95 tenths
+withSplit tenths = set sheetS peakField tenths
 
 -- October 2023, t 3
 abbrev pub periodS : Period

@@ -14,7 +14,7 @@ use borrow.Author.Tests.{leb-true}
 use Rattle.laws.specs.Notions.{every}
 use Rattle.laws.proofs.Every.{every-at, and-left, and-right}
 use Rattle.shares.specs.Shares.{wholeShare}
-use Rattle.sheet.specs.Sheet.{fieldCount, field, smnccField, valueOf, smncc, peakShare, rangeOf, fieldInRange, fieldsInRange, termMost, dfTerm, cmTerm, pcTerm, ocTerm, paacTerm, fourFit, paacFits, termsFit}
+use Rattle.sheet.specs.Sheet.{fieldCount, field, smnccField, valueOf, smncc, peakField, peakShare, rangeOf, fieldInRange, fieldsInRange, termMost, dfTerm, cmTerm, pcTerm, ocTerm, paacTerm, fourFit, paacFits, termsFit}
 use Rattle.sheet.specs.Ranged.{Ranged, Indexed}
 use Rattle.sheet.proofs.Ranges.{money-first, ppm-at, money-middle, initial-at, current-at, money-last, level-at, tenths-at, plain-bounds, net-cost-mag}
 
@@ -61,7 +61,7 @@ module _ {n : ℕ} (s : List ℕ) (h : Ranged n s) (k : ℕ) (there : k < n) whe
 
 -- the peak share, field 95
 pub peak-most : (s : List ℕ) → Ranged fieldCount s → peakShare s ≤ wholeShare
-peak-most s h = bounds s h 95 (omega arith) 0 wholeShare (λ e. omega arith) (tenths-at 95 refl) .1
+peak-most s h = bounds s h peakField (omega arith) 0 wholeShare (λ e. omega arith) (tenths-at peakField refl) .1
 
 -- SMNCC, field 36
 pub smncc-mag : {n : ℕ} (s : List ℕ) → Ranged n s → smnccField < n → mag (smncc s) ≤ 100000000

@@ -33,8 +33,11 @@ abbrev pub smncc : List ℕ → ℤ
 smncc s = valueOf smnccField (field s smnccField)
 
 -- M-103: "field 95, the peak share in tenths"
+abbrev pub peakField : ℕ
+peakField = 95
+
 abbrev pub peakShare : List ℕ → ℕ
-peakShare s = field s 95
+peakShare s = field s peakField
 
 -- money, a net cost or saving, parts per million, an initial and a current index, a consumption level m, a share in tenths of a percent
 abbrev pub money : Range

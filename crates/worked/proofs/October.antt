@@ -1,17 +1,16 @@
 -- Sheet S for October 2023 alone: it is accepted, and two tariffs under it.
 -- Assumes nothing.
-use mathlib.Core.Path.{_≡_, refl, _∙_, ap}
+use mathlib.Core.Path.{_≡_, refl}
 use mathlib.Core.Bool.{true}
 use mathlib.Core.List.{List, [], _∷_}
-use Prim.Native.Nat.{ℕ, _≤_}
-use native.Mathlib.Omega.{arith}
+use Prim.Native.Nat.{ℕ}
 use lib.Count.{ones, onesIn}
 use lib.IntN.{pos}
 use Rattle.laws.proofs.Pieces.{scan}
 use Rattle.laws.specs.Notions.{every, sum, total, tabulate, tabulateFrom, bit}
 use Rattle.calendar.specs.Calendar.{periodDays, periodInRange, monthBegins, lengthAt, monthLength, leapYear}
-use Rattle.shares.specs.Shares.{wholeShare, weighted}
-use Rattle.sheet.specs.Sheet.{peakShare, signed, valueOf, rangeOf, fieldInRange, fieldsInRange, round, roundSigned, indexed, fourFit, paacFits, termsFit}
+use Rattle.shares.specs.Shares.{weighted}
+use Rattle.sheet.specs.Sheet.{signed, valueOf, rangeOf, fieldInRange, fieldsInRange, round, roundSigned, indexed, fourFit, paacFits, termsFit}
 use Rattle.benchmark.specs.declared.Benchmarks.{Benchmarks}
 use Rattle.benchmark.specs.Benchmark.{benchmark, wc, pc, oc, nc, paenc, headroom, panc, figure, figures, ocsFit, ordered, setCheck, benchmarksOf}
 use Rattle.tariff.specs.Tariff.{tariffOf, recordCheck, validTariff, validKind, singleRegister, economy7, multiRegister, ratesWithin, zeroFrom, within, rising}
@@ -23,7 +22,7 @@ use Rattle.cap.proofs.Scanned.{scannedMonths}
 use Rattle.verdict.specs.Cells.{offered, cellNumbers, cellCount, Verdict, opens, over, verdict}
 use Rattle.verdict.proofs.Scanned.{scannedBelow, scannedVerdict}
 use Rattle.reference.proofs.Scanning.{formed, by-scan}
-use Rattle.reference.proofs.Figures.{chargesS, charges-of-s, is-580}
+use Rattle.reference.proofs.Figures.{chargesS, charges-at-580, split-of-s}
 use Rattle.reference.specs.SheetS.{times, sheetS, flat}
 use Rattle.reference.specs.Starred.{firstOther}
 use Rattle.refusal.specs.declared.Check.the-variants.{Pass}
@@ -36,10 +35,6 @@ days-in-october : periodDays octoberPeriod ≡ 31
 unfolding periodDays monthBegins lengthAt monthLength leapYear
 days-in-october = refl
 
-split : peakShare sheetS ≤ wholeShare
-unfolding sheetS times
-split = omega arith
-
 pub october-accepted : setCheck sheetS octoberPeriod ≡ Pass
 unfolding setCheck fieldsInRange fieldInRange valueOf signed rangeOf every termsFit fourFit paacFits ocsFit ordered periodInRange figures figure tabulate tabulateFrom benchmark wc pc oc nc paenc headroom panc indexed round roundSigned sheetS times periodDays monthBegins lengthAt monthLength leapYear recordCheck validTariff validKind singleRegister economy7 multiRegister ratesWithin zeroFrom within rising
 october-accepted = refl
@@ -49,7 +44,7 @@ abbrev known : Benchmarks
 known = formed sheetS octoberPeriod chargesS 31
 
 on-known : (x : List ℕ) (v : Verdict) → validTariff (tariffOf x) ≡ true → scannedVerdict known (tariffOf x) ≡ v → verdict (benchmarksOf sheetS octoberPeriod) (tariffOf x) ≡ v
-on-known = by-scan sheetS octoberPeriod chargesS 31 (ap figures is-580 ∙ charges-of-s 580) days-in-october split
+on-known = by-scan sheetS octoberPeriod chargesS 31 charges-at-580 days-in-october split-of-s
 
 low-computed : scannedVerdict known (tariffOf (flat 23000 18000)) ≡ opens 28
 unfolding scannedVerdict scannedBelow offered bit cellNumbers arrangement scannedMonths cornersTo tiersOf scan tierCharge weighted monthCharge charge maximum charged capped excess sum total cellCount ones onesIn sheetS times

@@ -17,7 +17,7 @@ use Rattle.laws.proofs.Every.{and-left, and-right}
 use Rattle.refusal.specs.declared.Check.the-variants.{Pass}
 use Rattle.refusal.proofs.Checks.{unless-passes}
 use Rattle.benchmark.specs.declared.Benchmarks.{Benchmarks}
-use Rattle.tariff.specs.Tariff.{tariffOf, validTariff, recordCheck}
+use Rattle.tariff.specs.Tariff.{recordLength, tariffOf, validTariff, recordCheck}
 use Rattle.book.specs.declared.Place.{Place}
 use Rattle.book.specs.Calls.{Record}
 use Rattle.book.specs.Checks.{Holding, inside}
@@ -77,13 +77,13 @@ held-inside ps (suc i) h l e = go (decLt i 32)
         let gone : held (getD ps i beyond) ≡ none = ap held out in
         never (cc)
 
--- a record that passes refusal 8 has 13 numbers, and its tariff is valid
-parts : (x : Record) → recordCheck x ≡ Pass → (eqb (length x) 13 && validTariff (tariffOf x)) ≡ true
+-- a record that passes refusal 8 has 27 numbers, and its tariff is valid
+parts : (x : Record) → recordCheck x ≡ Pass → (eqb (length x) recordLength && validTariff (tariffOf x)) ≡ true
 unfolding recordCheck
-parts x e = unless-passes (eqb (length x) 13 && validTariff (tariffOf x)) 8 Pass e .0
+parts x e = unless-passes (eqb (length x) recordLength && validTariff (tariffOf x)) 8 Pass e .0
 
-pub record-length : (x : Record) → recordCheck x ≡ Pass → length x ≡ 13
-record-length x e = eqb-true (length x) 13 (and-left (eqb (length x) 13) (validTariff (tariffOf x)) (parts x e))
+pub record-length : (x : Record) → recordCheck x ≡ Pass → length x ≡ recordLength
+record-length x e = eqb-true (length x) recordLength (and-left (eqb (length x) recordLength) (validTariff (tariffOf x)) (parts x e))
 
 pub record-valid : (x : Record) → recordCheck x ≡ Pass → validTariff (tariffOf x) ≡ true
-record-valid x e = and-right (eqb (length x) 13) (validTariff (tariffOf x)) (parts x e)
+record-valid x e = and-right (eqb (length x) recordLength) (validTariff (tariffOf x)) (parts x e)

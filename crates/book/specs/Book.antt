@@ -22,21 +22,22 @@ use Rattle.book.specs.Checks.{Holding, Readings, figuresOf, complies, an
 -- a place is a state beside the numbers of a tariff: one made of the two, and the tariff of one
 abbrev pub placeWith : State → Tariff → Place
 placeWith s x =
-    record { state = s; kind = x .kind; n = x .n; standing = x .standing; regions = x .regions; methods = x .methods; rates = x .rates; steps = x .steps }
+    record { state = s; kind = x .kind; n = x .n; standing = x .standing; regions = x .regions; methods = x .methods; rates = x .rates; steps = x .steps; regional = x .regional }
 
 abbrev pub tariffIn : Place → Tariff
 tariffIn p =
-    record { kind = p .kind; n = p .n; standing = p .standing; regions = p .regions; methods = p .methods; rates = p .rates; steps = p .steps }
+    record { kind = p .kind; n = p .n; standing = p .standing; regions = p .regions; methods = p .methods; rates = p .rates; steps = p .steps; regional = p .regional }
 
 abbrev pub withState : State → Place → Place
 withState s p = placeWith s (tariffIn p)
 
 -- a place that holds nothing has zeros
-abbrev pub zeros : List ℕ → Tariff
-zeros four = record { kind = 0; n = 0; standing = 0; regions = 0; methods = 0; rates = four; steps = four }
+abbrev pub zeros : (four fourteen : List ℕ) → Tariff
+zeros four fourteen =
+    record { kind = 0; n = 0; standing = 0; regions = 0; methods = 0; rates = four; steps = four; regional = fourteen }
 
 abbrev pub empty : Place
-empty = placeWith Empty (zeros (replicate 4 0))
+empty = placeWith Empty (zeros (replicate 4 0) (replicate 14 0))
 
 -- "A fresh book has no sheet and all places empty."
 abbrev pub noPeriod : Period
@@ -48,7 +49,7 @@ fresh =
 
 -- code k is place k - 1; past the places stands what a read there gives
 abbrev pub beyond : Place
-beyond = placeWith Empty (zeros [])
+beyond = placeWith Empty (zeros [] [])
 
 abbrev pub placeOf : List Place → ℕ → Place
 placeOf ps zero = beyond

@@ -33,6 +33,7 @@ pub struct Place {
     pub methods: u32,
     pub rates: [u32; 4],
     pub steps: [u32; 4],
+    pub regional: [u32; 14],
 }
 
 // 32 places; a sheet with its period, or none; and what they come to.
@@ -73,6 +74,7 @@ pub fn place_with(state: State, x: Tariff) -> Place
 {
     let rates = x.rates;
     let steps = x.steps;
+    let regional = x.regional;
     Place {
         state,
         kind: x.kind,
@@ -82,6 +84,7 @@ pub fn place_with(state: State, x: Tariff) -> Place
         methods: x.methods,
         rates,
         steps,
+        regional,
     }
 }
 
@@ -91,6 +94,7 @@ pub fn tariff_in(p: Place) -> Tariff
 {
     let rates = p.rates;
     let steps = p.steps;
+    let regional = p.regional;
     Tariff {
         kind: p.kind,
         n: p.n,
@@ -99,6 +103,7 @@ pub fn tariff_in(p: Place) -> Tariff
         methods: p.methods,
         rates,
         steps,
+        regional,
     }
 }
 
@@ -122,6 +127,7 @@ pub fn empty_place() -> Place
         methods: 0,
         rates: [0; 4],
         steps: [0; 4],
+        regional: [0; 14],
     }
 }
 

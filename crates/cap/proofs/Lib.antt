@@ -5,3 +5,4 @@ pub mod Scanned
 pub mod Sizes
 pub mod Shares
 pub mod Splits
+pub mod Standing

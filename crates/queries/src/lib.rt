@@ -108,7 +108,7 @@ fn cell_allowed(x: Tariff, region: u32, method: u32) -> bool
     if 2 <= method {
         return false;
     }
-    verdict::has(x.regions, region) && verdict::has(x.methods, method)
+    tariff::has(x.regions, region) && tariff::has(x.methods, method)
 }
 
 // Whether a list has t months of at most 10,000 kWh.
@@ -156,8 +156,7 @@ pub fn quote(b: Book, code: u32, region: u32, method: u32, months: &[u32]) -> To
     let Check::Pass = checked else {
         return refused(checked);
     };
-    let arrangement = verdict::arrangement_of(x);
-    let e = verdict::numbers_in(figures, arrangement, x.standing, region, method);
+    let e = verdict::numbers_of(figures, x, region, method);
     let sides = cap::sides_of(e, x, months);
     Told::Quote {
         charge: sides.charged,

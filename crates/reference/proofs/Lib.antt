@@ -3,3 +3,4 @@ pub mod Figures
 pub mod Table
 pub mod Savings
 pub mod Splits
+pub mod Regional

@@ -12,7 +12,7 @@ use Rattle.shares.specs.Shares.{wholeShare}
 use Rattle.sheet.specs.Sheet.{peakShare, signed, valueOf, rangeOf, fieldInRange, fieldsInRange, round, roundSigned, indexed, fourFit, paacFits, termsFit}
 use Rattle.benchmark.specs.Benchmark.{benchmark, wc, pc, oc, nc, paenc, headroom, panc, figure, figures, ocsFit, ordered, setCheck}
 use Rattle.benchmark.specs.Common.{costsAt, sumFrom, common, commonAt, commons}
-use Rattle.tariff.specs.Tariff.{tariffOf, validTariff, validKind, singleRegister, ratesWithin, zeroFrom, within, rising}
+use Rattle.tariff.specs.Tariff.{tariffOf, standingIn, validTariff, regionFits, validKind, singleRegister, ratesWithin, zeroFrom, within, rising}
 use Rattle.charge.specs.Charge.{arrangement, tierCharge, monthCharge, charge}
 use Rattle.charge.specs.Tiers.{tiersOf}
 use Rattle.cap.specs.Cap.{maximum, charged, capped, excess}
@@ -38,12 +38,12 @@ unfolding sheetS times
 split = omega arith
 
 falling : scannedVerdict (formed saving periodS charges 92) (tariffOf (flat 23960 18000)) ≡ over (cell 0 0) (0 ∷ 0 ∷ 0 ∷ []) (pos 3864870000000)
-unfolding scannedVerdict scannedBelow offered bit cellNumbers arrangement scannedMonths cornersTo tiersOf scan tierCharge monthCharge charge maximum charged capped excess sum total sheetS times
+unfolding scannedVerdict scannedBelow offered bit cellNumbers standingIn arrangement scannedMonths cornersTo tiersOf scan tierCharge monthCharge charge maximum charged capped excess sum total sheetS times
 falling = refl
 
 -- THE TABLE
 pub savings : Savings
-unfolding commons commonAt common sumFrom costsAt setCheck fieldsInRange fieldInRange valueOf signed rangeOf every termsFit fourFit paacFits ocsFit ordered periodInRange figures figure tabulate tabulateFrom benchmark wc pc oc nc paenc headroom panc indexed round roundSigned sheetS times validTariff validKind singleRegister ratesWithin zeroFrom within rising
+unfolding commons commonAt common sumFrom costsAt setCheck fieldsInRange fieldInRange valueOf signed rangeOf every termsFit fourFit paacFits ocsFit ordered periodInRange figures figure tabulate tabulateFrom benchmark wc pc oc nc paenc headroom panc indexed round roundSigned sheetS times validTariff regionFits standingIn bit validKind singleRegister ratesWithin zeroFrom within rising
 savings =
     record {
       words = (refl, refl, refl, refl, refl);

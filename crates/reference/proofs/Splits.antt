@@ -12,7 +12,7 @@ use Rattle.calendar.specs.Calendar.{periodInRange}
 use Rattle.shares.specs.Shares.{wholeShare, weighted}
 use Rattle.sheet.specs.Sheet.{signed, valueOf, rangeOf, fieldInRange, fieldsInRange, round, roundSigned, indexed, fourFit, paacFits, termsFit}
 use Rattle.benchmark.specs.Benchmark.{benchmark, wc, pc, oc, nc, paenc, headroom, panc, figure, figures, ocsFit, ordered, setCheck}
-use Rattle.tariff.specs.Tariff.{tariffOf, recordCheck, validTariff, validKind, singleRegister, economy7, multiRegister, ratesWithin, zeroFrom, within, rising}
+use Rattle.tariff.specs.Tariff.{tariffOf, standingIn, recordCheck, validTariff, regionFits, validKind, singleRegister, economy7, multiRegister, ratesWithin, zeroFrom, within, rising}
 use Rattle.charge.specs.Charge.{arrangement, tierCharge, monthCharge, charge}
 use Rattle.charge.specs.Tiers.{tiersOf}
 use Rattle.cap.specs.Cap.{maximum, charged, capped, excess}
@@ -27,7 +27,7 @@ use Rattle.reference.proofs.Figures.{chargesS, charges-of-s, days-of-s,
 
 -- the verdicts, by the scan
 computed : SplitVerdicts (λ tenths x. scannedVerdict (formed (withSplit tenths) periodS chargesS 92) (tariffOf x))
-unfolding scannedVerdict scannedBelow offered bit cellNumbers arrangement scannedMonths cornersTo tiersOf scan tierCharge weighted monthCharge charge maximum charged capped excess sum total cellCount ones onesIn sheetS times
+unfolding scannedVerdict scannedBelow offered bit cellNumbers standingIn arrangement scannedMonths cornersTo tiersOf scan tierCharge weighted monthCharge charge maximum charged capped excess sum total cellCount ones onesIn sheetS times
 computed =
     record {
       at-579 = refl;
@@ -43,7 +43,7 @@ computed =
     }
 
 even-computed : EvenVerdicts (λ tenths x. scannedVerdict (formed (evenSheet tenths) january evenCharges 31) (tariffOf x))
-unfolding scannedVerdict scannedBelow offered bit cellNumbers arrangement scannedMonths cornersTo tiersOf scan weighted monthCharge charge maximum charged capped excess sum total cellCount ones onesIn evenSheet times
+unfolding scannedVerdict scannedBelow offered bit cellNumbers standingIn arrangement scannedMonths cornersTo tiersOf scan weighted monthCharge charge maximum charged capped excess sum total cellCount ones onesIn evenSheet times
 even-computed =
     record {
       exact = refl;
@@ -70,7 +70,7 @@ on-even tenths h = by-scan (evenSheet tenths) january evenCharges 31 (charges-ev
 
 -- THE TABLE
 pub splits : Splits
-unfolding setCheck fieldsInRange fieldInRange valueOf signed rangeOf every sum termsFit fourFit paacFits ocsFit ordered periodInRange figures figure tabulate tabulateFrom benchmark wc pc oc nc paenc headroom panc indexed round roundSigned sheetS evenSheet times recordCheck validTariff validKind singleRegister economy7 multiRegister ratesWithin zeroFrom within rising
+unfolding setCheck fieldsInRange fieldInRange valueOf signed rangeOf every sum termsFit fourFit paacFits ocsFit ordered periodInRange figures figure tabulate tabulateFrom benchmark wc pc oc nc paenc headroom panc indexed round roundSigned sheetS evenSheet times recordCheck validTariff regionFits standingIn bit validKind singleRegister economy7 multiRegister ratesWithin zeroFrom within rising
 splits =
     record {
       accepted = (refl, refl, refl);

@@ -14,7 +14,7 @@ use Rattle.sheet.specs.Sheet.{signed, valueOf, rangeOf, fieldInRange, fieldsInR
 use Rattle.benchmark.specs.declared.Benchmarks.{Benchmarks}
 use Rattle.benchmark.specs.Benchmark.{benchmark, wc, pc, oc, nc, paenc, headroom, panc, figure, figures, ocsFit, ordered, setCheck}
 use Rattle.benchmark.specs.Common.{costsAt, sumFrom, common, commonAt, commons}
-use Rattle.tariff.specs.Tariff.{tariffOf, recordCheck, validTariff, validKind, singleRegister, economy7, multiRegister, ratesWithin, zeroFrom, within, rising}
+use Rattle.tariff.specs.Tariff.{tariffOf, standingIn, recordCheck, validTariff, regionFits, validKind, singleRegister, economy7, multiRegister, ratesWithin, zeroFrom, within, rising}
 use Rattle.charge.specs.Charge.{arrangement, tierCharge, monthCharge, charge}
 use Rattle.charge.specs.Tiers.{tiersOf}
 use Rattle.cap.specs.Cap.{maximum, charged, capped, excess}
@@ -28,11 +28,11 @@ use Rattle.reference.proofs.Scanning.{formed, is-formed, by-scan}
 use Rattle.reference.proofs.Figures.{chargesS, charges-at-580, split-of-s, days-of-s}
 
 -- the figures of sheet S, worked out
-abbrev known : Benchmarks
+abbrev pub known : Benchmarks
 known = formed sheetS periodS chargesS 92
 
 -- a verdict by the scan, on the known figures
-on-known : (x : List ℕ) (v : Verdict) → validTariff (tariffOf x) ≡ true → scannedVerdict known (tariffOf x) ≡ v → verdictOn x ≡ v
+pub on-known : (x : List ℕ) (v : Verdict) → validTariff (tariffOf x) ≡ true → scannedVerdict known (tariffOf x) ≡ v → verdictOn x ≡ v
 on-known = by-scan sheetS periodS chargesS 92 charges-at-580 days-of-s split-of-s
 
 -- the excess in region 0 with method 1, on the known figures
@@ -41,7 +41,7 @@ by-figures x months d e = ap (λ (b : Benchmarks). excess (tariffNumbers b (tari
 
 -- the starred verdicts, by the scan
 computed : StarredVerdicts (λ x. scannedVerdict known (tariffOf x))
-unfolding scannedVerdict scannedBelow offered bit cellNumbers arrangement scannedMonths cornersTo tiersOf scan tierCharge weighted monthCharge charge maximum charged capped excess sum total cellCount ones onesIn sheetS times
+unfolding scannedVerdict scannedBelow offered bit cellNumbers standingIn arrangement scannedMonths cornersTo tiersOf scan tierCharge weighted monthCharge charge maximum charged capped excess sum total cellCount ones onesIn sheetS times
 computed =
     record {
       within = refl;
@@ -55,16 +55,16 @@ computed =
 
 -- 300 kWh in one month, and 5 kWh in each
 below : excessOf (tiered 20000 20000 100 15000) (300 ∷ 0 ∷ 0 ∷ []) ≡ pos 0 -ℤ tenfold 3346470000000
-unfolding cellNumbers arrangement tierCharge charge maximum charged capped excess sum total sheetS times
+unfolding cellNumbers standingIn arrangement tierCharge charge maximum charged capped excess sum total sheetS times
 below = by-figures (tiered 20000 20000 100 15000) (300 ∷ 0 ∷ 0 ∷ []) _ refl
 
 nought : excessOf (tiered 0 165509 5 0) (5 ∷ 5 ∷ 5 ∷ []) ≡ pos 0
-unfolding cellNumbers arrangement tierCharge charge maximum charged capped excess sum total sheetS times
+unfolding cellNumbers standingIn arrangement tierCharge charge maximum charged capped excess sum total sheetS times
 nought = by-figures (tiered 0 165509 5 0) (5 ∷ 5 ∷ 5 ∷ []) _ refl
 
 -- THE TABLE
 pub starred : Starred
-unfolding commons commonAt common sumFrom costsAt setCheck fieldsInRange fieldInRange valueOf signed rangeOf every termsFit fourFit paacFits ocsFit ordered periodInRange figures figure tabulate tabulateFrom benchmark wc pc oc nc paenc headroom panc indexed round roundSigned sheetS times periodDays monthBegins lengthAt monthLength leapYear recordCheck validTariff validKind singleRegister economy7 multiRegister ratesWithin zeroFrom within rising
+unfolding commons commonAt common sumFrom costsAt setCheck fieldsInRange fieldInRange valueOf signed rangeOf every termsFit fourFit paacFits ocsFit ordered periodInRange figures figure tabulate tabulateFrom benchmark wc pc oc nc paenc headroom panc indexed round roundSigned sheetS times periodDays monthBegins lengthAt monthLength leapYear recordCheck validTariff regionFits standingIn bit validKind singleRegister economy7 multiRegister ratesWithin zeroFrom within rising
 starred =
     record {
       accepted = refl;

@@ -2,7 +2,7 @@
 -- Assumes nothing.
 use mathlib.Core.List.{List, [], _∷_, _++_}
 use Prim.Native.Nat.{ℕ, zero, suc}
-use lib.ListN.{set}
+use lib.ListN.{set, take, replicate}
 use Rattle.calendar.specs.declared.Period.{Period}
 use Rattle.sheet.specs.Sheet.{peakField}
 
@@ -34,9 +34,23 @@ withSplit tenths = set sheetS peakField tenths
 abbrev pub periodS : Period
 periodS = record { year = 2023; month = 10; months = 3 }
 
--- all regions and both methods: a kind, n, a standing charge, four rates and four steps
+-- what the fourteen regions add to the standing charge: nothing; the same everywhere; or something in one region alone
+abbrev pub nothingAdded : List ℕ
+nothingAdded = replicate 14 0
+
+abbrev pub inEvery : ℕ → List ℕ
+inEvery mills = replicate 14 mills
+
+abbrev pub inRegion : ℕ → ℕ → List ℕ
+inRegion region mills = set nothingAdded region mills
+
+-- a record with other numbers there
+abbrev pub adding : List ℕ → List ℕ → List ℕ
+adding fourteen x = take 13 x ++ fourteen
+
+-- all regions and both methods: a kind, n, a standing charge, four rates and four steps, with nothing added in any region
 abbrev pub offeredEverywhere : ℕ → ℕ → ℕ → List ℕ → List ℕ → List ℕ
-offeredEverywhere kind n standing rates steps = kind ∷ n ∷ standing ∷ 16383 ∷ 3 ∷ (rates ++ steps)
+offeredEverywhere kind n standing rates steps = kind ∷ n ∷ standing ∷ 16383 ∷ 3 ∷ (rates ++ steps ++ nothingAdded)
 
 abbrev pub noSteps : List ℕ
 noSteps = 0 ∷ 0 ∷ 0 ∷ 0 ∷ []

@@ -1,7 +1,7 @@
 // The calls of the book, timed: `speed MEASUREMENT CALLS` makes that many calls from a fixed generator and prints the checksum of
 // their answers. 0: SET with 32 open tariffs. 1: OPEN of 28 cells and 4 tiers, with the CLOSE that frees it. 2: OPEN that is over
-// the cap in the last cell. 3: QUOTE of 12 months. 4: BENCHMARK. 5: TRIAL with 32 open tariffs. Any other number: each of the six
-// in turn.
+// the cap in the last cell. 3: QUOTE of 12 months. 4: BENCHMARK. 5: TRIAL with 32 open tariffs. 6: as 1, the book handed to each call
+// and back. Any other number: each of the seven in turn.
 // Promise: each run is safe and ends, and every book that is handed to a call is one that some list of calls leaves.
 // tests/speed has the twin of this program on another implementation, and the runner that times both.
 ghost use mathlib.Core.Path.{_≡_};
@@ -16,6 +16,7 @@ use codes::CodeAct;
 use libc::STDOUT_FILENO;
 use queries::Told;
 use sheet::FIELD_COUNT;
+use tariff::RECORD_LENGTH;
 
 // The reference sheet, with network costs lower by 1,000,000 in the last region.
 const SHEET: [u32; FIELD_COUNT] = [
@@ -165,12 +166,23 @@ fn fold_told(sum: u64, told: Told) -> u64 {
     }
 }
 
+// A record of its first 13 numbers, with nothing added in any region.
+fn record_of(numbers: [u32; 13]) -> [u32; RECORD_LENGTH] {
+    let mut whole = [0u32; RECORD_LENGTH];
+    let mut i: usize = 0;
+    while i < 13 {
+        whole[i] = numbers[i];
+        i += 1;
+    }
+    whole
+}
+
 // A tariff with four tiers, offered everywhere. With a standing charge of 10,000 it is within the cap in all 28 cells, and with
 // 22,000 in all but the last.
-fn tiered(k: u32, standing: u32) -> [u32; 13]
+fn tiered(k: u32, standing: u32) -> [u32; RECORD_LENGTH]
     requires { ⌜ (k < 32) × (standing ≤ 22000) ⌝ }
 {
-    [
+    record_of([
         1,
         4,
         standing + k,
@@ -184,17 +196,17 @@ fn tiered(k: u32, standing: u32) -> [u32; 13]
         500 + k,
         2_000 + k,
         0,
-    ]
+    ])
 }
 
 // Tariffs of all three kinds, within the cap everywhere.
-fn mixed(k: u32) -> [u32; 13]
+fn mixed(k: u32) -> [u32; RECORD_LENGTH]
     requires { ⌜ k < 32 ⌝ }
 {
     let kind = k % 4;
     match kind {
         0 => tiered(k, 10_000),
-        1 => [
+        1 => record_of([
             1,
             2,
             10_000 + k,
@@ -208,8 +220,8 @@ fn mixed(k: u32) -> [u32; 13]
             0,
             0,
             0,
-        ],
-        2 => [
+        ]),
+        2 => record_of([
             2,
             2,
             10_000 + k,
@@ -223,8 +235,8 @@ fn mixed(k: u32) -> [u32; 13]
             0,
             0,
             0,
-        ],
-        _ => [
+        ]),
+        _ => record_of([
             3,
             3,
             10_000 + k,
@@ -238,7 +250,7 @@ fn mixed(k: u32) -> [u32; 13]
             300,
             200,
             0,
-        ],
+        ]),
     }
 }
 
@@ -350,7 +362,58 @@ fn sets(n: u64) -> u64 {
     fold_book(b, sum)
 }
 
+// On the one book that the loop holds: each call settles the place of its code, which is stored again.
 fn opens(n: u64) -> u64 {
+    let mut b = with_drafts(10_000);
+    let mut x: u64 = 1;
+    let mut sum: u64 = 0;
+    let mut i: u64 = 0;
+    while i < n {
+        x = next(x);
+        let code = 1 + drawn(x, 32);
+        let at = book::index_of(code);
+        let draft = b.places[at];
+        let figures = b.benchmarks;
+        let did = codes::settle(CodeAct::Open, code, draft, b.loaded, figures);
+        let reply = did.reply;
+        let opened = did.place;
+        b.places[at] = opened;
+        let again = b.places[at];
+        let undid = codes::settle(CodeAct::Close, code, again, b.loaded, figures);
+        let answer = undid.reply;
+        let closed = undid.place;
+        b.places[at] = closed;
+        sum = fold_reply(fold_reply(sum, reply), answer);
+        i += 1;
+    }
+    sum
+}
+
+fn overs(n: u64) -> u64 {
+    let mut b = with_drafts(22_000);
+    let mut x: u64 = 1;
+    let mut sum: u64 = 0;
+    let mut i: u64 = 0;
+    while i < n {
+        x = next(x);
+        let code = 1 + drawn(x, 32);
+        let at = book::index_of(code);
+        let draft = b.places[at];
+        let figures = b.benchmarks;
+        let did = codes::settle(CodeAct::Open, code, draft, b.loaded, figures);
+        let reply = did.reply;
+        let months = did.months;
+        let place = did.place;
+        b.places[at] = place;
+        sum = fold_reply(sum, reply);
+        sum = fold(fold(sum, wide(months[0])), wide(months[11]));
+        i += 1;
+    }
+    sum
+}
+
+// OPEN and CLOSE again, the book handed to each call and back.
+fn handed(n: u64) -> u64 {
     let mut b = with_drafts(10_000);
     let mut x: u64 = 1;
     let mut sum: u64 = 0;
@@ -366,25 +429,6 @@ fn opens(n: u64) -> u64 {
         let after = undid.book;
         b = after;
         sum = fold_reply(fold_reply(sum, reply), answer);
-        i += 1;
-    }
-    sum
-}
-
-fn overs(n: u64) -> u64 {
-    let mut b = with_drafts(22_000);
-    let mut x: u64 = 1;
-    let mut sum: u64 = 0;
-    let mut i: u64 = 0;
-    while i < n {
-        x = next(x);
-        let did = codes::act_on(b, 1 + drawn(x, 32), CodeAct::Open);
-        let reply = did.reply;
-        let months = did.months;
-        let after = did.book;
-        b = after;
-        sum = fold_reply(sum, reply);
-        sum = fold(fold(sum, wide(months[0])), wide(months[11]));
         i += 1;
     }
     sum
@@ -449,7 +493,8 @@ fn measured(measurement: u64, calls: u64) -> u64 {
         2 => overs(calls),
         3 => quotes(calls),
         4 => benchmarks(calls),
-        _ => trials(calls),
+        5 => trials(calls),
+        _ => handed(calls),
     }
 }
 
@@ -491,11 +536,11 @@ fn argument(i: usize) -> u64 {
 fn main() {
     let measurement = argument(1);
     let calls = argument(2);
-    if measurement < 6 {
+    if measurement < 7 {
         print(measured(measurement, calls));
         return;
     }
-    for each in 0..6 {
+    for each in 0..7 {
         print(measured(each, calls));
     }
 }

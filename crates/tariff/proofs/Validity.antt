@@ -1,18 +1,18 @@
 -- What a valid tariff keeps to, by its parts and by its kind.
 -- Assumes nothing.
 use mathlib.Core.Path.{_≡_, refl}
-use mathlib.Core.Bool.{Bool, true, false, cond, _&&_}
+use mathlib.Core.Bool.{Bool, true, false, cond, _&&_, _||_}
 use mathlib.Core.List.{List}
 use Prim.Native.Nat.{ℕ, _+_, _-_, _<_, _≤_}
 use native.Mathlib.Omega.{arith}
 use lib.Dec.{leb, ltb, eqb}
 use lib.ListN.{getD, take}
 use borrow.Author.Tests.{leb-true, ltb-true, eqb-true}
-use Rattle.laws.specs.Notions.{sum}
+use Rattle.laws.specs.Notions.{every, sum, bit}
 use Rattle.laws.proofs.Every.{and-left, and-right, every-at}
 use Rattle.shares.specs.Shares.{wholeShare}
 use Rattle.tariff.specs.declared.Tariff.{Tariff}
-use Rattle.tariff.specs.Tariff.{rateMost, standingMost, stepMost, ratesWithin, zeroFrom, within, rising, singleRegister, economy7, multiRegister, validKind, validTariff}
+use Rattle.tariff.specs.Tariff.{rateMost, standingMost, stepMost, standingIn, ratesWithin, zeroFrom, within, rising, singleRegister, economy7, multiRegister, validKind, regionFits, validTariff}
 
 -- the parts of joined tests that hold
 three : (a b c : Bool) → (a && b && c) ≡ true → (a ≡ true) × (b ≡ true) × (c ≡ true)
@@ -20,11 +20,11 @@ three a b c e =
     let ab : (a && b) ≡ true = and-left (a && b) c e in
     (and-left a b ab, and-right a b ab, and-right (a && b) c e)
 
-five : (a b c d k : Bool) → (a && b && c && d && k) ≡ true → (a ≡ true) × (b ≡ true) × (c ≡ true) × (d ≡ true) × (k ≡ true)
-five a b c d k e =
-    let abcd : (a && b && c && d) ≡ true = and-left (a && b && c && d) k e in
-    let p = three a b c (and-left (a && b && c) d abcd) in
-    (p .0, p .1, p .2, and-right (a && b && c) d abcd, and-right (a && b && c && d) k e)
+six : (a b c d f k : Bool) → (a && b && c && d && f && k) ≡ true → (a ≡ true) × (b ≡ true) × (c ≡ true) × (d ≡ true) × (f ≡ true) × (k ≡ true)
+six a b c d f k e =
+    let l = three (a && b && c && d) f k e in
+    let p = three (a && b) c d (l .0) in
+    (and-left a b (p .0), and-right a b (p .0), p .1, p .2, l .1, l .2)
 
 -- a number between two others
 between : (low a high : ℕ) → (leb low a && leb a high) ≡ true → (low ≤ a) × (a ≤ high)
@@ -35,13 +35,11 @@ parts : (x : Tariff) → validTariff x ≡ true
     × ((leb 1 (x .regions) && leb (x .regions) 16383) ≡ true)
     × ((leb 1 (x .methods) && leb (x .methods) 3) ≡ true)
     × (ratesWithin (x .rates) ≡ true)
+    × (every 14 (regionFits x) ≡ true)
     × (validKind x ≡ true)
 unfolding validTariff
 parts x v =
-    five (leb (x .standing) standingMost) (leb 1 (x .regions) && leb (x .regions) 16383) (leb 1 (x .methods) && leb (x .methods) 3) (ratesWithin (x .rates)) (validKind x) v
-
-pub valid-standing : (x : Tariff) → validTariff x ≡ true → x .standing ≤ standingMost
-valid-standing x v = leb-true (x .standing) standingMost (parts x v .0)
+    six (leb (x .standing) standingMost) (leb 1 (x .regions) && leb (x .regions) 16383) (leb 1 (x .methods) && leb (x .methods) 3) (ratesWithin (x .rates)) (every 14 (regionFits x)) (validKind x) v
 
 pub valid-regions : (x : Tariff) → validTariff x ≡ true → (1 ≤ x .regions) × (x .regions ≤ 16383)
 valid-regions x v = between 1 (x .regions) 16383 (parts x v .1)
@@ -53,7 +51,23 @@ pub valid-rates : (x : Tariff) → validTariff x ≡ true → ratesWithin (x .ra
 valid-rates x v = parts x v .3
 
 pub valid-kind : (x : Tariff) → validTariff x ≡ true → validKind x ≡ true
-valid-kind x v = parts x v .4
+valid-kind x v = parts x v .5
+
+-- in each region: a standing charge of 0 to 1,000,000, and no number where it is not offered
+region-parts : (x : Tariff) (r : ℕ) → validTariff x ≡ true → r < 14
+    → (leb (standingIn x r) standingMost ≡ true) × ((bit (x .regions) r || eqb (getD (x .regional) r 0) 0) ≡ true)
+unfolding regionFits
+region-parts x r v h =
+    let e : regionFits x r ≡ true = every-at (regionFits x) 14 (parts x v .4) r h in
+    let s : Bool = leb (standingIn x r) standingMost in
+    let t : Bool = bit (x .regions) r || eqb (getD (x .regional) r 0) 0 in
+    (and-left s t e, and-right s t e)
+
+pub valid-standing-in : (x : Tariff) (r : ℕ) → validTariff x ≡ true → r < 14 → standingIn x r ≤ standingMost
+valid-standing-in x r v h = leb-true (standingIn x r) standingMost (region-parts x r v h .0)
+
+pub valid-not-offered : (x : Tariff) (r : ℕ) → validTariff x ≡ true → r < 14 → bit (x .regions) r ≡ false → getD (x .regional) r 0 ≡ 0
+valid-not-offered x r v h off = eqb-true (getD (x .regional) r 0) 0 (rw off at (region-parts x r v h .1))
 
 pub within-at : (a : List ℕ) (k low high : ℕ) → within a k low high ≡ true → (i : ℕ) → i < k → (low ≤ getD a i 0) × (getD a i 0 ≤ high)
 unfolding within

@@ -1,11 +1,12 @@
--- "A tariff" of document 01: the record and refusal 8; the shares of kind 3 as document 02's M-103 has them.
+-- "A tariff" of document 01: the record and refusal 8; the shares of kind 3 as document 02's M-103 has them, and the standing charges by
+-- region of M-104.
 -- Assumes nothing.
 use mathlib.Core.Bool.{Bool, false, cond, _&&_, _||_}
 use mathlib.Core.List.{List, [], _∷_}
 use Prim.Native.Nat.{ℕ, _+_, _-_}
 use lib.Dec.{leb, ltb, eqb}
 use lib.ListN.{length, getD, take}
-use Rattle.laws.specs.Notions.{every, sum}
+use Rattle.laws.specs.Notions.{every, sum, bit}
 use Rattle.refusal.specs.declared.Check.{Check}
 use Rattle.refusal.specs.declared.Check.the-variants.{Pass}
 use Rattle.refusal.specs.Checks.{unless}
@@ -22,7 +23,12 @@ standingMost = 1000000
 abbrev pub stepMost : ℕ
 stepMost = 9999
 
--- "13 numbers: 0 kind; 1 n; 2 standing charge per day; 3 regions; 4 methods; 5-8 rates; 9-12 steps."
+-- M-104: "A tariff becomes 27 numbers"
+abbrev pub recordLength : ℕ
+recordLength = 27
+
+-- "0 kind; 1 n; 2 standing charge per day; 3 regions; 4 methods; 5-8 rates; 9-12 steps", and M-104: "fields 13 to 26 are added to field 2
+-- for regions 0 to 13"
 abbrev pub tariffOf : List ℕ → Tariff
 tariffOf x =
     record {
@@ -33,7 +39,14 @@ tariffOf x =
       methods = getD x 4 0;
       rates = getD x 5 0 ∷ getD x 6 0 ∷ getD x 7 0 ∷ getD x 8 0 ∷ [];
       steps = getD x 9 0 ∷ getD x 10 0 ∷ getD x 11 0 ∷ getD x 12 0 ∷ [];
+      regional =
+          getD x 13 0 ∷ getD x 14 0 ∷ getD x 15 0 ∷ getD x 16 0 ∷ getD x 17 0 ∷ getD x 18 0 ∷ getD x 19 0
+          ∷ getD x 20 0 ∷ getD x 21 0 ∷ getD x 22 0 ∷ getD x 23 0 ∷ getD x 24 0 ∷ getD x 25 0 ∷ getD x 26 0 ∷ [];
     }
+
+-- the standing charge of the region concerned
+unfoldable pub standingIn : Tariff → ℕ → ℕ
+standingIn x region = x .standing + getD (x .regional) region 0
 
 -- the first k numbers are from low to high
 unfoldable pub within : List ℕ → ℕ → ℕ → ℕ → Bool
@@ -71,15 +84,20 @@ unfoldable pub validKind : Tariff → Bool
 validKind x =
     cond (eqb (x .kind) 1) (singleRegister x) (cond (eqb (x .kind) 2) (economy7 x) (cond (eqb (x .kind) 3) (multiRegister x) false))
 
--- standing charge 0 to 1,000,000; regions bits 0 to 13, not empty; methods bits 0 and 1, not empty; the rates; the kind
+-- M-104: "Each sum stays at or below 1,000,000. A region not offered has 0 there."
+unfoldable pub regionFits : Tariff → ℕ → Bool
+regionFits x region = leb (standingIn x region) standingMost && (bit (x .regions) region || eqb (getD (x .regional) region 0) 0)
+
+-- standing charge 0 to 1,000,000; regions bits 0 to 13, not empty; methods bits 0 and 1, not empty; the rates; the fourteen; the kind
 unfoldable pub validTariff : Tariff → Bool
 validTariff x =
     leb (x .standing) standingMost
     && (leb 1 (x .regions) && leb (x .regions) 16383)
     && (leb 1 (x .methods) && leb (x .methods) 3)
     && ratesWithin (x .rates)
+    && every 14 (regionFits x)
     && validKind x
 
 -- refusal 8: "not such a record, its length included"
 unfoldable pub recordCheck : List ℕ → Check
-recordCheck x = unless (eqb (length x) 13 && validTariff (tariffOf x)) 8 Pass
+recordCheck x = unless (eqb (length x) recordLength && validTariff (tariffOf x)) 8 Pass

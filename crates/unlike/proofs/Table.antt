@@ -14,7 +14,7 @@ use Rattle.sheet.specs.Sheet.{peakShare, signed, valueOf, rangeOf, fieldInRange
 use Rattle.benchmark.specs.declared.Benchmarks.{Benchmarks}
 use Rattle.benchmark.specs.Benchmark.{benchmark, wc, pc, oc, nc, paenc, headroom, panc, figure, figures, ocsFit, ordered, setCheck}
 use Rattle.benchmark.specs.Common.{costsAt, sumFrom, common, commonAt, commons}
-use Rattle.tariff.specs.Tariff.{tariffOf, recordCheck, validTariff, validKind, singleRegister, economy7, multiRegister, ratesWithin, zeroFrom, within, rising}
+use Rattle.tariff.specs.Tariff.{tariffOf, standingIn, recordCheck, validTariff, regionFits, validKind, singleRegister, economy7, multiRegister, ratesWithin, zeroFrom, within, rising}
 use Rattle.charge.specs.Charge.{arrangement, tierCharge, monthCharge, charge}
 use Rattle.charge.specs.Tiers.{tiersOf}
 use Rattle.cap.specs.Cap.{maximum, charged, capped, excess}
@@ -40,7 +40,7 @@ on-known = by-scan sheetU periodU chargesU 60 charges-of-u days-of-u split
 
 -- the verdicts, by the scan
 computed : UnlikeVerdicts (λ x. scannedVerdict known (tariffOf x))
-unfolding scannedVerdict scannedBelow offered bit cellNumbers arrangement scannedMonths cornersTo tiersOf scan tierCharge weighted monthCharge charge maximum charged capped excess sum total cellCount ones onesIn sheetU networks
+unfolding scannedVerdict scannedBelow offered bit cellNumbers standingIn arrangement scannedMonths cornersTo tiersOf scan tierCharge weighted monthCharge charge maximum charged capped excess sum total cellCount ones onesIn sheetU networks
 computed =
     record {
       tiers-over = refl;
@@ -53,7 +53,7 @@ computed =
 
 -- THE TABLE
 pub unlike : Unlike
-unfolding commons commonAt common sumFrom costsAt setCheck fieldsInRange fieldInRange valueOf signed rangeOf every sum termsFit fourFit paacFits ocsFit ordered periodInRange figures figure tabulate tabulateFrom benchmark wc pc oc nc paenc headroom panc indexed round roundSigned sheetU networks loneField lonePair periodDays monthBegins lengthAt monthLength leapYear recordCheck validTariff validKind singleRegister economy7 multiRegister ratesWithin zeroFrom within rising
+unfolding commons commonAt common sumFrom costsAt setCheck fieldsInRange fieldInRange valueOf signed rangeOf every sum termsFit fourFit paacFits ocsFit ordered periodInRange figures figure tabulate tabulateFrom benchmark wc pc oc nc paenc headroom panc indexed round roundSigned sheetU networks loneField lonePair periodDays monthBegins lengthAt monthLength leapYear recordCheck validTariff regionFits standingIn bit validKind singleRegister economy7 multiRegister ratesWithin zeroFrom within rising
 unlike =
     record {
       accepted = refl;

@@ -1,5 +1,5 @@
 -- Sheet U: no two regions, arrangements, methods or indices are alike on it, so that a figure taken from the wrong field shows. Its
--- period, the tariffs judged by it, and small sheets on which one pair of benchmarks alone is out of order.
+-- period, the tariffs judged by it, with nothing added in any region, and small sheets on which one pair of benchmarks alone is out of order.
 -- Assumes nothing.
 use mathlib.Core.Bool.{cond, _&&_}
 use mathlib.Core.List.{List, [], _∷_, _++_}
@@ -8,6 +8,7 @@ use lib.Dec.{leb, eqb}
 use Rattle.laws.specs.Notions.{tabulate}
 use Rattle.calendar.specs.declared.Period.{Period}
 use Rattle.sheet.specs.Sheet.{fieldCount}
+use Rattle.reference.specs.SheetS.{nothingAdded}
 
 -- NC of n regions from region r on: single-rate falls from region to region, Economy 7 rises
 unfoldable pub networks : ℕ → ℕ → List ℕ
@@ -36,19 +37,19 @@ periodU = record { year = 2024; month = 2; months = 2 }
 
 -- three tiers, in regions 4 and 9 by Standard Credit
 abbrev pub threeTiers : ℕ → List ℕ
-threeTiers standing = 1 ∷ 3 ∷ standing ∷ 528 ∷ 1 ∷ 20000 ∷ 18700 ∷ 10000 ∷ 0 ∷ 50 ∷ 400 ∷ 0 ∷ 0 ∷ []
+threeTiers standing = 1 ∷ 3 ∷ standing ∷ 528 ∷ 1 ∷ 20000 ∷ 18700 ∷ 10000 ∷ 0 ∷ 50 ∷ 400 ∷ 0 ∷ 0 ∷ nothingAdded
 
 -- Economy 7, in regions 0 and 13 by both methods
 abbrev pub peakAt : ℕ → List ℕ
-peakAt peak = 2 ∷ 2 ∷ 20000 ∷ 8193 ∷ 3 ∷ peak ∷ 14000 ∷ 0 ∷ 0 ∷ 0 ∷ 0 ∷ 0 ∷ 0 ∷ []
+peakAt peak = 2 ∷ 2 ∷ 20000 ∷ 8193 ∷ 3 ∷ peak ∷ 14000 ∷ 0 ∷ 0 ∷ 0 ∷ 0 ∷ 0 ∷ 0 ∷ nothingAdded
 
 -- three registers of 50, 30 and 20 percent, in tenths, in regions 3 and 13 by both methods
 abbrev pub threeRegisters : ℕ → List ℕ
-threeRegisters rate = 3 ∷ 3 ∷ 18000 ∷ 8200 ∷ 3 ∷ rate ∷ 20000 ∷ 9000 ∷ 0 ∷ 500 ∷ 300 ∷ 200 ∷ 0 ∷ []
+threeRegisters rate = 3 ∷ 3 ∷ 18000 ∷ 8200 ∷ 3 ∷ rate ∷ 20000 ∷ 9000 ∷ 0 ∷ 500 ∷ 300 ∷ 200 ∷ 0 ∷ nothingAdded
 
 -- two registers, of which the first has all the consumption, in regions 1 and 12 by Other
 abbrev pub allInOne : List ℕ
-allInOne = 3 ∷ 2 ∷ 20000 ∷ 4098 ∷ 2 ∷ 15000 ∷ 150000 ∷ 0 ∷ 0 ∷ 1000 ∷ 0 ∷ 0 ∷ 0 ∷ []
+allInOne = 3 ∷ 2 ∷ 20000 ∷ 4098 ∷ 2 ∷ 15000 ∷ 150000 ∷ 0 ∷ 0 ∷ 1000 ∷ 0 ∷ 0 ∷ 0 ∷ nothingAdded
 
 -- A sheet on which the benchmark at m is below that at nil in one region, arrangement and method alone. All indices, both m and the peak
 -- share are 1; OC0 is 1 at m of the arrangement, NC of the region is 2 at nil and 1 at m, and PAP of the method is a quarter:

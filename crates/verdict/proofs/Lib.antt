@@ -3,3 +3,4 @@ pub mod Count
 pub mod Walk
 pub mod Scanned
 pub mod Splits
+pub mod Regional

@@ -1,7 +1,7 @@
 -- The order of OPEN's walk, and what the first cell that exceeds means for every offered cell.
 -- Assumes nothing.
-use mathlib.Core.Path.{_≡_, refl, sym, _∙_, ap₂, subst₂}
-use mathlib.Core.Bool.{Bool, true, false}
+use mathlib.Core.Path.{_≡_, refl, sym, _∙_, ap, ap₂, subst₂}
+use mathlib.Core.Bool.{Bool, true, false, _&&_}
 use mathlib.Core.Logic.{_↔_, inl, inr}
 use mathlib.Core.Option.{Option, none, some}
 use Prim.Native.Nat.{ℕ, zero, suc, _+_, _*_, _/_, _<_}
@@ -102,8 +102,8 @@ module _ (b : Benchmarks) (x : Tariff) where
   pub hit : (c : Cell) → Offered x c → ExceedsIn b x c → exceedsAt b x (rank c) ≡ true
   unfolding exceedsAt
   hit c o h =
-      rw (cell-at-rank c (o .1))
-      (and-both (offered x c) (decided (exceeds? (tariffNumbers b x c) x)) (o .2) (yes-decided (exceeds? (tariffNumbers b x c) x) h))
+      ap (λ (d : Cell). offered x d && decided (exceeds? (tariffNumbers b x d) x)) (cell-at-rank c (o .1))
+      ∙ and-both (offered x c) (decided (exceeds? (tariffNumbers b x c) x)) (o .2) (yes-decided (exceeds? (tariffNumbers b x c) x) h)
 
   pub hit-offered : (n : ℕ) → n < 28 → exceedsAt b x n ≡ true → Offered x (cellAt n)
   unfolding exceedsAt

@@ -1,7 +1,7 @@
 -- The walk over the cells, one step at a time.
 -- Assumes nothing.
 use mathlib.Core.Path.{_≡_, refl, sym, _∙_, ap, ap₂, subst, subst₂}
-use mathlib.Core.Bool.{Bool, true, false, cond, and-false}
+use mathlib.Core.Bool.{Bool, true, false, cond, _&&_, and-false}
 use mathlib.Core.Option.{none, some}
 use Prim.Native.Nat.{ℕ, suc, _+_, _*_, _-_, _<_, _≤_}
 use native.Mathlib.Nat.{add-zero}
@@ -14,8 +14,8 @@ use Rattle.benchmark.specs.declared.Benchmarks.{Benchmarks}
 use Rattle.benchmark.specs.Benchmark.{figureIndex}
 use Rattle.benchmark.specs.Lawful.{Lawful}
 use Rattle.tariff.specs.declared.Tariff.{Tariff}
-use Rattle.tariff.specs.Tariff.{standingMost, validTariff}
-use Rattle.tariff.proofs.Validity.{valid-standing}
+use Rattle.tariff.specs.Tariff.{standingMost, standingIn, validTariff}
+use Rattle.tariff.proofs.Validity.{valid-standing-in}
 use Rattle.charge.specs.Charge.{arrangement}
 use Rattle.cap.specs.declared.CellNumbers.{CellNumbers}
 use Rattle.cap.specs.declared.Corners.{Corners}
@@ -23,7 +23,7 @@ use Rattle.cap.specs.declared.WorstCase.{WorstCase}
 use Rattle.cap.specs.Decided.{exceeds?, decided}
 use Rattle.cap.specs.Corners.{Fits, Cornered, Carries}
 use Rattle.verdict.specs.declared.Found.the-variants as found
-use Rattle.verdict.specs.Cells.{offered, cellNumbers, tariffNumbers, exceedsAt, firstBelow, firstOver, cellCount, opens, over, verdictAt, verdict, cell}
+use Rattle.verdict.specs.Cells.{Cell, offered, cellNumbers, tariffNumbers, exceedsAt, firstBelow, firstOver, cellCount, opens, over, verdictAt, verdict, cell}
 use Rattle.verdict.specs.Rulings.{Finds}
 use Rattle.verdict.proofs.Meaning.{cell-at-rank, below-none, below-here, below-later}
 
@@ -67,14 +67,14 @@ numbers-are b r a p standing at e is low up m t d s k =
 
 -- the numbers of a tariff's cell, as the code reads them: they fit, and the corners of the tariff are those that it has there
 pub cell-read : (b : Benchmarks) (x : Tariff) → Lawful b → validTariff x ≡ true → (r p a : ℕ) → r < 14 → p < 2 → a ≡ arrangement x
-    → (e : CellNumbers) → e ≡ cellNumbers b a (x .standing) (cell r p) → (m : ℕ) (k : Corners) → m ≡ getD (b .levels) a 0 → Cornered (b .peak) x m k
+    → (s : ℕ) → s ≡ standingIn x r → (e : CellNumbers) → e ≡ cellNumbers b a s (cell r p) → (m : ℕ) (k : Corners) → m ≡ getD (b .levels) a 0 → Cornered (b .peak) x m k
     → (e ≡ tariffNumbers b x (cell r p)) × Cornered (e .peak) x (e .m) k × Fits e
 unfolding cellNumbers
-cell-read b x h v r p a hr hp ia e is m k l c =
-    let same : e ≡ tariffNumbers b x (cell r p) = is ∙ ap (λ (i : ℕ). cellNumbers b i (x .standing) (cell r p)) ia in (
+cell-read b x h v r p a hr hp ia s js e is m k l c =
+    let same : e ≡ tariffNumbers b x (cell r p) = is ∙ ap₂ (λ (i j : ℕ). cellNumbers b i j (cell r p)) ia js in (
       same,
       subst (λ (d : CellNumbers). Cornered (d .peak) x (d .m) k) (sym is) (subst (λ (n : ℕ). Cornered (b .peak) x n k) l c),
-      subst Fits (sym same) (numbers-fit b h r (arrangement x) p (x .standing) hr (arrangement-small x) hp (valid-standing x v)),
+      subst Fits (sym same) (numbers-fit b h r (arrangement x) p (standingIn x r) hr (arrangement-small x) hp (valid-standing-in x r v hr)),
     )
 
 module _ (b : Benchmarks) (x : Tariff) where
@@ -106,7 +106,10 @@ module _ (b : Benchmarks) (x : Tariff) where
       → (t : Bool) → t ≡ decided (exceeds? e x) → exceedsAt b x (2 * r + p) ≡ t
   unfolding exceedsAt
   in-cell r p h er ep e is t d =
-      rw (cell-at-rank (cell r p) h, cell-on r p er ep) (ap (λ (y : CellNumbers). decided (exceeds? y x)) (sym is) ∙ sym d)
+      ap (λ (k : Cell). offered x k && decided (exceeds? (tariffNumbers b x k) x)) (cell-at-rank (cell r p) h)
+      ∙ ap (λ (q : Bool). q && decided (exceeds? (tariffNumbers b x (cell r p)) x)) (cell-on r p er ep)
+      ∙ ap (λ (y : CellNumbers). decided (exceeds? y x)) (sym is)
+      ∙ sym d
 
   -- one cell further
   pub passed : (r p : ℕ) → firstBelow b x (2 * r + p) ≡ none → exceedsAt b x (2 * r + p) ≡ false → firstBelow b x (2 * r + (p + 1)) ≡ none

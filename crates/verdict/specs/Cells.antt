@@ -13,6 +13,7 @@ use Rattle.laws.specs.Notions.{bit}
 use Rattle.benchmark.specs.declared.Benchmarks.{Benchmarks}
 use Rattle.benchmark.specs.Benchmark.{figureIndex}
 use Rattle.tariff.specs.declared.Tariff.{Tariff}
+use Rattle.tariff.specs.Tariff.{standingIn}
 use Rattle.charge.specs.Charge.{arrangement}
 use Rattle.cap.specs.declared.CellNumbers.{CellNumbers}
 use Rattle.cap.specs.Cap.{excess, Exceeds, worstMonths}
@@ -45,9 +46,10 @@ cellNumbers b arrangement standing c =
       peak = b .peak;
     }
 
--- those of a tariff's cell: kind 1 is held to arrangement 0, kinds 2 and 3 to arrangement 1
+-- those of a tariff's cell: kind 1 is held to arrangement 0, kinds 2 and 3 to arrangement 1; M-104: "at or below the cap with the charge of
+-- the region concerned"
 abbrev pub tariffNumbers : Benchmarks → Tariff → Cell → CellNumbers
-tariffNumbers b x c = cellNumbers b (arrangement x) (x .standing) c
+tariffNumbers b x c = cellNumbers b (arrangement x) (standingIn x (c .region)) c
 
 -- "A tariff exceeds in a cell"
 abbrev pub ExceedsIn : Benchmarks → Tariff → Cell → Type 0

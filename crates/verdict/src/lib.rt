@@ -1,18 +1,18 @@
 // OPEN's walk over the offered cells, and its verdict.
 // Promise: `verdict_of` answers the number of cells of a tariff that exceeds nowhere, or the first cell that exceeds, with the months
-// of answer 11 and their excess. Each offered cell is looked at once. What the layer above may use: `verdict`, `firstOver`,
-// `Offered`, `ExceedsIn`, `cellNumbers` of specs/Cells.antt, and the theorems in proofs/Meaning.antt and proofs/Count.antt.
+// of answer 11 and their excess. Each offered cell is looked at once, with the standing charge of its region; where a share may be greatest
+// is worked out once for the tariff. What the layer above may use: `verdict`, `firstOver`, `Offered`, `ExceedsIn`, `cellNumbers`,
+// `tariffNumbers` of specs/Cells.antt, and the theorems in proofs/Meaning.antt, Count.antt and Regional.antt.
 ghost use mathlib.Core.Path.{_≡_};
 ghost use mathlib.Core.Bool.{true};
 ghost use Prim.Native.Nat.{_<_, _≤_};
 ghost use lib.ListN.{length, getD};
-ghost use Rattle.laws.specs.Notions.{bit};
 ghost use Rattle.benchmark.specs.declared.Benchmarks.{Benchmarks};
 ghost use Rattle.benchmark.specs.Lawful.{Lawful};
 ghost use Rattle.tariff.specs.Tariff.{standingMost, validTariff};
 ghost use Rattle.charge.specs.Charge.{arrangement};
 ghost use Rattle.cap.specs.Corners.{Fits};
-ghost use Rattle.verdict.specs.Cells.{cell, cellNumbers, cellCount};
+ghost use Rattle.verdict.specs.Cells.{cell, cellNumbers, tariffNumbers, cellCount};
 ghost use Rattle.verdict.specs.Rulings.{Finds, Rules};
 use benchmark::Benchmarks;
 use cap::CellNumbers;
@@ -40,14 +40,6 @@ fn wide(x: u32) -> u64
     ensures { λ r. ⌜ r ≡ x ⌝ }
 {
     x as u64
-}
-
-// Bit i of a set.
-pub fn has(set: u32, i: u32) -> bool
-    requires { ⌜ i < 32 ⌝ }
-    ensures { λ r. ⌜ r ≡ bit set i ⌝ }
-{
-    (set >> i) % 2 == 1
 }
 
 // The arrangement that a tariff is held to.
@@ -117,6 +109,16 @@ pub fn numbers_in(
     )
 }
 
+// The numbers of a tariff's cell, with the standing charge of the region concerned.
+pub fn numbers_of(b: Benchmarks, x: Tariff, region: u32, method: u32) -> CellNumbers
+    requires { ⌜ Lawful b × (validTariff x ≡ true) × (region < 14) × (method < 2) ⌝ }
+    ensures { λ r. ⌜ (r ≡ tariffNumbers b x (cell region method)) × Fits r ⌝ }
+{
+    let arrangement = arrangement_of(x);
+    let standing = tariff::standing_in(x, region);
+    numbers_in(b, arrangement, standing, region, method)
+}
+
 // The walk: by region, then method, both rising, to the first offered cell that exceeds.
 pub fn first_over(b: Benchmarks, x: Tariff) -> Found
     requires { ⌜ Lawful b × (validTariff x ≡ true) ⌝ }
@@ -132,9 +134,10 @@ pub fn first_over(b: Benchmarks, x: Tariff) -> Found
         if 14 <= region {
             break 'walk Found::Nowhere;
         }
-        if has(x.regions, region) {
+        if tariff::has(x.regions, region) {
+            let standing = tariff::standing_in(x, region);
             for method in 0..2 {
-                if has(x.methods, method) {
+                if tariff::has(x.methods, method) {
                     let e = cell_numbers(
                         &charges,
                         m,
@@ -142,7 +145,7 @@ pub fn first_over(b: Benchmarks, x: Tariff) -> Found
                         b.months,
                         b.days,
                         arrangement,
-                        x.standing,
+                        standing,
                         region,
                         method,
                     );
@@ -169,7 +172,7 @@ pub fn verdict_of(b: Benchmarks, x: Tariff) -> Ruling
             months: [0; 12],
         },
         Found::Over(region, method) => {
-            let e = numbers_in(b, arrangement_of(x), x.standing, region, method);
+            let e = numbers_of(b, x, region, method);
             let worst = cap::worst_case(x, e);
             let months = worst.months;
             Ruling {

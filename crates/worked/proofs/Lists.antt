@@ -10,7 +10,7 @@ use Rattle.refusal.specs.Checks.{checked, need}
 use Rattle.benchmark.specs.declared.Benchmarks.{Benchmarks}
 use Rattle.benchmark.specs.Benchmark.{setCheck, benchmark, wc, pc, oc, nc, paenc, headroom, panc, figure, figures, benchmarksOf}
 use Rattle.tariff.specs.declared.Tariff.{Tariff}
-use Rattle.tariff.specs.Tariff.{tariffOf, recordCheck}
+use Rattle.tariff.specs.Tariff.{tariffOf, standingIn, recordCheck}
 use Rattle.verdict.specs.Cells.{Cell, offered, cellNumbers, Verdict, opens, verdict, verdictAt, firstOver}
 use Rattle.verdict.specs.Cells as cells
 use Rattle.book.specs.Calls.{Sheet, Record, Act, SET, PUT, call, Answer, accepted, opened, refused, isAccepted, isNone}
@@ -102,7 +102,7 @@ two-calls = rw (starred .accepted, starred .records .1)
 
 quote-told : quoteOf (changed (changed fresh (SET quarter)) (PUT 7 steep)) 7 0 1 (300 ∷ 0 ∷ 0 ∷ [])
     ≡ quotation (record { charge = 246240000000000; maximum = 279704700000000 })
-unfolding quoteOf cellAllowed monthsAllowed every offered bit cellNumbers arrangement tierCharge charge maximum charged capped sum total benchmarksOf figures figure tabulate tabulateFrom benchmark wc pc oc nc paenc headroom panc valueOf signed indexed round roundSigned sheetS times periodDays monthBegins lengthAt monthLength leapYear
+unfolding quoteOf cellAllowed monthsAllowed every offered bit cellNumbers standingIn arrangement tierCharge charge maximum charged capped sum total benchmarksOf figures figure tabulate tabulateFrom benchmark wc pc oc nc paenc headroom panc valueOf signed indexed round roundSigned sheetS times periodDays monthBegins lengthAt monthLength leapYear
 quote-told = refl
 
 -- THE LISTS

@@ -13,7 +13,7 @@ use Rattle.shares.specs.Shares.{weighted}
 use Rattle.sheet.specs.Sheet.{signed, valueOf, rangeOf, fieldInRange, fieldsInRange, round, roundSigned, indexed, fourFit, paacFits, termsFit}
 use Rattle.benchmark.specs.declared.Benchmarks.{Benchmarks}
 use Rattle.benchmark.specs.Benchmark.{benchmark, wc, pc, oc, nc, paenc, headroom, panc, figure, figures, ocsFit, ordered, setCheck, benchmarksOf}
-use Rattle.tariff.specs.Tariff.{tariffOf, recordCheck, validTariff, validKind, singleRegister, economy7, multiRegister, ratesWithin, zeroFrom, within, rising}
+use Rattle.tariff.specs.Tariff.{tariffOf, standingIn, recordCheck, validTariff, regionFits, validKind, singleRegister, economy7, multiRegister, ratesWithin, zeroFrom, within, rising}
 use Rattle.charge.specs.Charge.{arrangement, tierCharge, monthCharge, charge}
 use Rattle.charge.specs.Tiers.{tiersOf}
 use Rattle.cap.specs.Cap.{maximum, charged, capped, excess}
@@ -36,7 +36,7 @@ unfolding periodDays monthBegins lengthAt monthLength leapYear
 days-in-october = refl
 
 pub october-accepted : setCheck sheetS octoberPeriod ≡ Pass
-unfolding setCheck fieldsInRange fieldInRange valueOf signed rangeOf every termsFit fourFit paacFits ocsFit ordered periodInRange figures figure tabulate tabulateFrom benchmark wc pc oc nc paenc headroom panc indexed round roundSigned sheetS times periodDays monthBegins lengthAt monthLength leapYear recordCheck validTariff validKind singleRegister economy7 multiRegister ratesWithin zeroFrom within rising
+unfolding setCheck fieldsInRange fieldInRange valueOf signed rangeOf every termsFit fourFit paacFits ocsFit ordered periodInRange figures figure tabulate tabulateFrom benchmark wc pc oc nc paenc headroom panc indexed round roundSigned sheetS times periodDays monthBegins lengthAt monthLength leapYear recordCheck validTariff regionFits standingIn bit validKind singleRegister economy7 multiRegister ratesWithin zeroFrom within rising
 october-accepted = refl
 
 -- its figures, worked out
@@ -47,25 +47,25 @@ on-known : (x : List ℕ) (v : Verdict) → validTariff (tariffOf x) ≡ true �
 on-known = by-scan sheetS octoberPeriod chargesS 31 charges-at-580 days-in-october split-of-s
 
 low-computed : scannedVerdict known (tariffOf (flat 23000 18000)) ≡ opens 28
-unfolding scannedVerdict scannedBelow offered bit cellNumbers arrangement scannedMonths cornersTo tiersOf scan tierCharge weighted monthCharge charge maximum charged capped excess sum total cellCount ones onesIn sheetS times
+unfolding scannedVerdict scannedBelow offered bit cellNumbers standingIn arrangement scannedMonths cornersTo tiersOf scan tierCharge weighted monthCharge charge maximum charged capped excess sum total cellCount ones onesIn sheetS times
 low-computed = refl
 
 close-computed : scannedVerdict known (tariffOf (flat 23960 18000)) ≡ over firstOther (0 ∷ []) (pos 286860000000)
-unfolding scannedVerdict scannedBelow offered bit cellNumbers arrangement scannedMonths cornersTo tiersOf scan tierCharge weighted monthCharge charge maximum charged capped excess sum total cellCount ones onesIn sheetS times
+unfolding scannedVerdict scannedBelow offered bit cellNumbers standingIn arrangement scannedMonths cornersTo tiersOf scan tierCharge weighted monthCharge charge maximum charged capped excess sum total cellCount ones onesIn sheetS times
 close-computed = refl
 
 pub october-low : verdict (benchmarksOf sheetS octoberPeriod) (tariffOf (flat 23000 18000)) ≡ opens 28
-unfolding validTariff validKind singleRegister economy7 multiRegister ratesWithin zeroFrom within rising every
+unfolding validTariff regionFits standingIn bit validKind singleRegister economy7 multiRegister ratesWithin zeroFrom within rising every
 october-low = on-known (flat 23000 18000) _ refl low-computed
 
 pub october-close : verdict (benchmarksOf sheetS octoberPeriod) (tariffOf (flat 23960 18000)) ≡ over firstOther (0 ∷ []) (pos 286860000000)
-unfolding validTariff validKind singleRegister economy7 multiRegister ratesWithin zeroFrom within rising every
+unfolding validTariff regionFits standingIn bit validKind singleRegister economy7 multiRegister ratesWithin zeroFrom within rising every
 october-close = on-known (flat 23960 18000) _ refl close-computed
 
 pub close-record : recordCheck (flat 23960 18000) ≡ Pass
-unfolding setCheck fieldsInRange fieldInRange valueOf signed rangeOf every termsFit fourFit paacFits ocsFit ordered periodInRange figures figure tabulate tabulateFrom benchmark wc pc oc nc paenc headroom panc indexed round roundSigned sheetS times periodDays monthBegins lengthAt monthLength leapYear recordCheck validTariff validKind singleRegister economy7 multiRegister ratesWithin zeroFrom within rising
+unfolding setCheck fieldsInRange fieldInRange valueOf signed rangeOf every termsFit fourFit paacFits ocsFit ordered periodInRange figures figure tabulate tabulateFrom benchmark wc pc oc nc paenc headroom panc indexed round roundSigned sheetS times periodDays monthBegins lengthAt monthLength leapYear recordCheck validTariff regionFits standingIn bit validKind singleRegister economy7 multiRegister ratesWithin zeroFrom within rising
 close-record = refl
 
 pub high-record : recordCheck (flat 23961 18000) ≡ Pass
-unfolding setCheck fieldsInRange fieldInRange valueOf signed rangeOf every termsFit fourFit paacFits ocsFit ordered periodInRange figures figure tabulate tabulateFrom benchmark wc pc oc nc paenc headroom panc indexed round roundSigned sheetS times periodDays monthBegins lengthAt monthLength leapYear recordCheck validTariff validKind singleRegister economy7 multiRegister ratesWithin zeroFrom within rising
+unfolding setCheck fieldsInRange fieldInRange valueOf signed rangeOf every termsFit fourFit paacFits ocsFit ordered periodInRange figures figure tabulate tabulateFrom benchmark wc pc oc nc paenc headroom panc indexed round roundSigned sheetS times periodDays monthBegins lengthAt monthLength leapYear recordCheck validTariff regionFits standingIn bit validKind singleRegister economy7 multiRegister ratesWithin zeroFrom within rising
 high-record = refl

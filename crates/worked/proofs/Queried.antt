@@ -6,6 +6,7 @@ use Rattle.calendar.specs.Calendar.{periodDays, monthBegins, lengthAt, monthLen
 use Rattle.shares.specs.Shares.{weighted}
 use Rattle.sheet.specs.Sheet.{signed, valueOf, round, roundSigned, indexed}
 use Rattle.benchmark.specs.Benchmark.{benchmark, wc, pc, oc, nc, paenc, headroom, panc, figure, figures, benchmarksOf}
+use Rattle.tariff.specs.Tariff.{standingIn}
 use Rattle.charge.specs.Charge.{arrangement, tierCharge, charge}
 use Rattle.cap.specs.Cap.{maximum, charged, capped}
 use Rattle.verdict.specs.Cells.{offered, cellNumbers}
@@ -33,7 +34,7 @@ unfolding bookAfter step
 after-one = rw (unlike .records .2)
 
 computed : Queried three bare
-unfolding benchmarkOf maximumOf quoteOf cellAllowed monthsAllowed every offered bit cellNumbers arrangement tierCharge weighted charge maximum charged capped sum total benchmarksOf figures figure tabulate tabulateFrom benchmark wc pc oc nc paenc headroom panc valueOf signed indexed round roundSigned sheetU networks periodDays monthBegins lengthAt monthLength leapYear
+unfolding benchmarkOf maximumOf quoteOf cellAllowed monthsAllowed every offered bit cellNumbers standingIn arrangement tierCharge weighted charge maximum charged capped sum total benchmarksOf figures figure tabulate tabulateFrom benchmark wc pc oc nc paenc headroom panc valueOf signed indexed round roundSigned sheetU networks periodDays monthBegins lengthAt monthLength leapYear
 computed =
     record {
       benchmark-refused = (refl, refl);

@@ -123,9 +123,9 @@ impl Book {
     pub fn set(&mut self, year: u32, month: u32, t: u32, fields: &[u32]) -> Result<(), Refusal> {
         let sheet = self.sheet.insert(Sheet::new(year, month, t, fields)?);
         for place in &mut self.places {
-            if let Place::Open(tariff) = *place {
-                if sheet.first_breach(&tariff).is_some() {
-                    *place = Place::Draft(tariff);
+            if let Place::Open(tariff) = place {
+                if sheet.first_breach(tariff).is_some() {
+                    *place = Place::Draft(*tariff);
                 }
             }
         }
@@ -259,13 +259,14 @@ impl Book {
         {
             return Err(Refusal::Argument);
         }
+        let (region, method) = (region as usize, method as usize);
         let arrangement = tariff.arrangement();
         let whole = u64::from(WHOLE);
-        let standing = whole * u64::from(tariff.standing()) * u64::from(sheet.days);
+        let standing = whole * u64::from(tariff.standing(region)) * u64::from(sheet.days);
         let tiers = tariff.tiers(sheet.peak_share);
         let units: u64 = months.iter().map(|&kwh| tiers.month_charge(kwh)).sum();
         let total = months.iter().map(|&kwh| u64::from(kwh)).sum();
-        let maximum = sheet.maximum(region as usize, arrangement, method as usize, total);
+        let maximum = sheet.maximum(region, arrangement, method, total);
         Ok(Quote {
             charge: 12 * u64::from(sheet.m(arrangement)) * (standing + units),
             maximum: whole * maximum,

@@ -8,7 +8,8 @@ use crate::book::{Book, NotOpened, State, PLACES};
 use crate::period_days;
 use crate::sheet::{field_range, field_value, FIELDS};
 use crate::tally::Tally;
-use crate::tariff::{MONTH_LIMIT, RECORD, WHOLE};
+use crate::tariff::{MONTH_LIMIT, RATE_LIMIT, RECORD, REGIONAL, STANDING_LIMIT, WHOLE};
+use regions::Quoted;
 use savings::is_saving;
 use trials::Tried;
 
@@ -29,6 +30,8 @@ pub struct Counts {
     fell_by_share: u32,
     /// Books with the sheet in force at other peak shares, made as they are needed.
     at_shares: Vec<(u32, Book)>,
+    /// The last call, if it was a quote that was answered, and its region.
+    quoted: Option<(Quoted, usize)>,
     records: [[u32; RECORD]; PLACES],
     used: [bool; PLACES],
     open: [bool; PLACES],
@@ -50,6 +53,7 @@ impl Default for Counts {
             tried: None,
             fell_by_share: 0,
             at_shares: Vec::new(),
+            quoted: None,
             records: [[0; RECORD]; PLACES],
             used: [false; PLACES],
             open: [false; PLACES],
@@ -69,6 +73,7 @@ macro_rules! count {
     }};
 }
 
+mod regions;
 mod savings;
 mod splits;
 mod trials;
@@ -81,6 +86,7 @@ impl Counts {
         self.tried = None;
         self.fell_by_share = 0;
         self.at_shares.clear();
+        self.quoted = None;
         self.used = [false; PLACES];
         self.open = [false; PLACES];
     }
@@ -149,10 +155,14 @@ impl Counts {
             self.smncc(call, &numbers[3..], refusal);
             self.peak_share(call, &numbers, refusal);
         }
+        if call != "quote" {
+            self.quoted = None;
+        }
         match call {
             "set" => self.set(&numbers, refusal, book),
             "trial" => self.trial(&numbers, refusal, &values, book),
             "put" if ok => self.put(&numbers),
+            "put" if refusal == 8 => self.refused_record(&numbers[1..]),
             "open" => self.open(&numbers, refusal, &values),
             "close" if ok => {
                 self.open[numbers[0] as usize - 1] = false;
@@ -181,11 +191,15 @@ impl Counts {
             self.tally.one("set of the sheet in force");
         }
         let still_open = |place: usize| book.state(place as u32 + 1) == Some(State::Open);
+        let fallen = (0..PLACES).filter(|&place| self.open[place] && !still_open(place));
+        let fallen: u32 = fallen.map(|place| 1 << place).sum();
         self.fell_by_share = 0;
         if self.peak_share_alone(numbers) {
-            let fallen = (0..PLACES).filter(|&place| self.open[place] && !still_open(place));
-            self.fell_by_share = fallen.map(|place| 1 << place).sum();
-            self.another_peak_share("set", numbers, self.fell_by_share);
+            self.fell_by_share = fallen;
+            self.another_peak_share("set", numbers, fallen);
+        }
+        if fallen > 0 {
+            self.fall_by_number("set", fallen, &mut book.clone());
         }
         self.in_force = submitted;
         self.fields.clear();
@@ -322,8 +336,9 @@ impl Counts {
         self.used[place] = true;
         self.tally.different("codes put", numbers[0].into());
         self.shape("put", &record);
+        self.put_by_region(&record);
         let n = record[1] as usize;
-        let steps = &record[9..];
+        let steps = &record[9..REGIONAL];
         match record[0] {
             1 => {
                 let steps = &steps[..n - 1];
@@ -354,11 +369,11 @@ impl Counts {
             }
         }
         match record[2] {
-            0 => self.tally.one("put: standing charge of 0"),
-            1_000_000 => self.tally.one("put: standing charge of 1,000,000"),
+            0 => self.tally.one("put: field 2 of 0"),
+            STANDING_LIMIT => self.tally.one("put: field 2 of 1,000,000"),
             _ => {}
         }
-        for rate in [0, 200_000] {
+        for rate in [0, RATE_LIMIT] {
             if record[5..5 + n].contains(&rate) {
                 count!(self, "put: a rate of {rate}");
             }
@@ -378,6 +393,7 @@ impl Counts {
                 self.tally.different("codes opened", numbers[0].into());
                 self.tally.different("numbers of cells opened", values[0]);
                 self.shape("opened", &record);
+                self.opened_by_region(&record);
                 if record[0] == 2 {
                     self.opened_economy_7(&record, false);
                 }
@@ -391,6 +407,7 @@ impl Counts {
                     panic!("an answer 11 has months");
                 };
                 self.shape("11", &record);
+                self.over_in_region(&record, region as usize, method);
                 if record[0] == 2 {
                     self.opened_economy_7(&record, true);
                 }
@@ -470,6 +487,7 @@ impl Counts {
             0 => {
                 let record = self.records[place];
                 self.shape("quoted", &record);
+                self.quoted_by_region(numbers, &record, values[0] == values[1]);
                 if record[0] == 2 {
                     self.quoted_economy_7(months, values);
                 }
@@ -548,7 +566,7 @@ fn name(call: &str, set: &'static str, trial: &'static str) -> &'static str {
 
 /// The only field of a sheet that is outside its range, if there is just one.
 fn only_outside(fields: &[u32]) -> Option<usize> {
-    only(|field| {
+    only(FIELDS, |field| {
         let (lowest, highest) = field_range(field);
         !(lowest..=highest).contains(&field_value(field, fields[field]))
     })
@@ -556,7 +574,7 @@ fn only_outside(fields: &[u32]) -> Option<usize> {
 
 /// The only field of a sheet whose indexed term is above 100,000,000, if there is just one.
 fn only_too_high(fields: &[u32]) -> Option<usize> {
-    only(|field| {
+    only(FIELDS, |field| {
         let index = match field {
             0..=3 => 0,
             4..=7 => 1,
@@ -570,10 +588,10 @@ fn only_too_high(fields: &[u32]) -> Option<usize> {
     })
 }
 
-/// The only field of a sheet for which the test holds, if there is just one.
-fn only(test: impl Fn(usize) -> bool) -> Option<usize> {
-    let mut fields = (0..FIELDS).filter(|&field| test(field));
-    fields.next().filter(|_| fields.next().is_none())
+/// The only number below `count` for which the test holds, if there is just one.
+fn only(count: usize, test: impl Fn(usize) -> bool) -> Option<usize> {
+    let mut met = (0..count).filter(|&number| test(number));
+    met.next().filter(|_| met.next().is_none())
 }
 
 /// A key that tells lists of numbers apart (FNV-1a, word by word, with a last stir).

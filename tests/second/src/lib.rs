@@ -28,4 +28,4 @@ pub use sheet::{
     common_sums, field_range, field_value, operating_costs, Breach, SheetError, COMMON_FIELDS,
     FIELDS, METHODS, PEAK_SHARE, REGIONS, SMNCC,
 };
-pub use tariff::{Tariff, MONTH_LIMIT, RECORD, WHOLE};
+pub use tariff::{Tariff, MONTH_LIMIT, RATE_LIMIT, RECORD, REGIONAL, STANDING_LIMIT, WHOLE};

@@ -7,6 +7,7 @@
 mod edges;
 mod noise;
 mod orders;
+mod regions;
 mod savings;
 mod sheets;
 mod splits;
@@ -24,12 +25,10 @@ use crate::sheet::{
     field_range, field_value, operating_costs, COMMON_FIELDS, FIELDS, PEAK_SHARE, REGIONS, SMNCC,
 };
 use crate::tally::Tally;
-use crate::tariff::{MONTH_LIMIT, RECORD, WHOLE};
+use crate::tariff::{MONTH_LIMIT, RATE_LIMIT, RECORD, REGIONAL, STANDING_LIMIT, WHOLE};
 use crate::{period_days, Breach, NotOpened, Refusal};
 
 const MONEY: u32 = 100_000_000;
-const STANDING_LIMIT: u32 = 1_000_000;
-const RATE_LIMIT: u32 = 200_000;
 const ALL_REGIONS: u32 = (1 << REGIONS) - 1;
 
 /// A part of a script is handed out when it has this many bytes.
@@ -89,10 +88,11 @@ enum Turn {
     TwoFaults,
     FieldEnd,
     Splits,
+    Regions,
 }
 
 /// Turns of a random script, by weight.
-const TURNS: [(Turn, u64); 14] = [
+const TURNS: [(Turn, u64); 15] = [
     (Turn::Set, 34),
     (Turn::Trial, 24),
     (Turn::Put, 170),
@@ -107,6 +107,7 @@ const TURNS: [(Turn, u64); 14] = [
     (Turn::TwoFaults, 19),
     (Turn::FieldEnd, 3),
     (Turn::Splits, 8),
+    (Turn::Regions, 12),
 ];
 
 /// Turns of a speed script: one in a hundred is a sheet.
@@ -453,6 +454,7 @@ impl Writer {
             Turn::TwoFaults => self.two_faults(),
             Turn::FieldEnd => self.end_of_a_field(),
             Turn::Splits => self.splits(),
+            Turn::Regions => self.regions(),
             Turn::Benchmark | Turn::Maximum | Turn::Quote => {
                 if self.random.one_in(4) {
                     self.take_odd(turn);
@@ -532,10 +534,7 @@ impl Writer {
                     1 => self.code_in(State::Empty, 1_000),
                     _ => self.used_code().unwrap_or(1),
                 };
-                let record = match self.index_of(code) {
-                    Some(i) => self.records[i].unwrap_or(FREE),
-                    None => FREE,
-                };
+                let record = self.used_record(code).unwrap_or(FREE);
                 region = self.random_bit(record[3]);
                 method = self.random_bit(record[4]);
                 let t = self.book.t().unwrap_or(3) as usize;
@@ -613,11 +612,8 @@ impl Writer {
 
     /// A tariff at the cap, then a mill over it, at one place.
     fn edge(&mut self) {
-        let code = self.code_in(State::Draft, 1_000);
+        let code = self.code_to_put();
         let mut record = self.any_record();
-        if self.book.state(code) == Some(State::Open) {
-            self.close(code);
-        }
         if self.book.t().is_some() {
             let Some((place, most)) = self.fit(&record) else {
                 return self.put(code, &record);
@@ -705,12 +701,23 @@ impl Writer {
             .find(|&code| self.records[code as usize - 1].is_some())
     }
 
-    fn index_of(&self, code: u32) -> Option<usize> {
-        (1..=32).contains(&code).then(|| code as usize - 1)
+    /// A code whose place takes a tariff, a draft's if there is one.
+    fn code_to_put(&mut self) -> u32 {
+        let code = self.code_in(State::Draft, 1_000);
+        if self.book.state(code) == Some(State::Open) {
+            self.close(code);
+        }
+        code
+    }
+
+    /// The record in the place of a code.
+    fn used_record(&self, code: u32) -> Option<[u32; RECORD]> {
+        let index = (code as usize).checked_sub(1)?;
+        *self.records.get(index)?
     }
 
     fn record(&self, code: u32) -> [u32; RECORD] {
-        self.records[code as usize - 1].expect("a used code has a record")
+        self.used_record(code).expect("a used code has a record")
     }
 
     fn region(&mut self) -> u32 {
@@ -751,7 +758,7 @@ impl Writer {
     fn months(&mut self, record: &[u32; RECORD], count: usize) -> Vec<u32> {
         let mut near = vec![0, 1, 9_999, MONTH_LIMIT];
         if record[0] == 1 {
-            for &step in record[9..].iter().filter(|&&step| step > 0) {
+            for &step in record[9..REGIONAL].iter().filter(|&&step| step > 0) {
                 near.extend([step - 1, step, step + 1]);
             }
         }
@@ -769,4 +776,15 @@ impl Writer {
 }
 
 /// A tariff that costs nothing.
-const FREE: [u32; RECORD] = [1, 1, 0, ALL_REGIONS, 3, 0, 0, 0, 0, 0, 0, 0, 0];
+const FREE: [u32; RECORD] = record_of(1, 1, 0, ALL_REGIONS, 3);
+
+/// A record whose rates, steps and numbers by region are all 0.
+const fn record_of(kind: u32, n: u32, standing: u32, regions: u32, methods: u32) -> [u32; RECORD] {
+    let mut record = [0; RECORD];
+    record[0] = kind;
+    record[1] = n;
+    record[2] = standing;
+    record[3] = regions;
+    record[4] = methods;
+    record
+}

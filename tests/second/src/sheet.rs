@@ -238,7 +238,7 @@ impl Sheet {
     ///
     /// With the charge taken in thousandths of a mill, the excess of a list of months is
     ///
-    /// 12 x m x 1,000 x standing x days - 1,000 x N x t x m
+    /// 12 x m x 1,000 x standing charge of the region x days - 1,000 x N x t x m
     ///     + 12 x the sum over the months of (m x charge - 1,000 x (M - N) x kWh).
     ///
     /// The months stand in it apart from each other, so the greatest excess has the worst
@@ -253,7 +253,7 @@ impl Sheet {
         let m = i64::from(self.m[arrangement]);
         let t = i64::from(self.t);
         let whole = i64::from(WHOLE);
-        let fixed = 12 * whole * m * i64::from(tariff.standing()) * i64::from(self.days);
+        let per_standing = 12 * whole * m * i64::from(self.days);
         let per_nil = whole * t * m;
 
         let mut ends = [(0, 0, 0); 4];
@@ -271,6 +271,7 @@ impl Sheet {
             if !tariff.offers_region(region as u32) {
                 continue;
             }
+            let fixed = per_standing * i64::from(tariff.standing(region));
             for (method, benchmark) in methods.iter().enumerate() {
                 if !tariff.offers_method(method as u32) {
                     continue;

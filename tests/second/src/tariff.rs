@@ -4,16 +4,20 @@ use std::borrow::Cow;
 
 use crate::sheet::{METHODS, REGIONS};
 
+/// The first of the numbers of a record that are for one region each, region 0 first.
+pub const REGIONAL: usize = 13;
 /// Numbers in a tariff record.
-pub const RECORD: usize = 13;
+pub const RECORD: usize = REGIONAL + REGIONS;
 /// The most a customer uses in a month, in kWh.
 pub const MONTH_LIMIT: u32 = 10_000;
 /// The whole of a consumption in tenths of a percent: what its shares add up to. Rates and
 /// charges are kept in this part of a mill, so that no weighted rate is rounded.
 pub const WHOLE: u32 = 1_000;
 
-const STANDING_LIMIT: u32 = 1_000_000;
-const RATE_LIMIT: u32 = 200_000;
+/// The highest standing charge per day, in mills: of field 2, and of each region.
+pub const STANDING_LIMIT: u32 = 1_000_000;
+/// The highest rate, in mills per kWh.
+pub const RATE_LIMIT: u32 = 200_000;
 
 /// A stretch of a month's consumption at one rate.
 #[derive(Clone, Copy, Debug, Default, PartialEq, Eq)]
@@ -89,7 +93,8 @@ pub struct Tariff {
     arrangement: usize,
     regions: u32,
     methods: u32,
-    standing: u32,
+    /// By region, in mills a day: field 2 and the region's own number.
+    standing: [u32; REGIONS],
     units: Units,
 }
 
@@ -100,12 +105,27 @@ fn weighted(rates: &[u32], shares: &[u32]) -> u32 {
     products.sum()
 }
 
+/// The standing charge of each region: field 2 and the region's number. `None` if one of them is
+/// above the limit, and if a region that is not offered has a number.
+fn standing_charges(field_2: u32, regions: u32, numbers: &[u32]) -> Option<[u32; REGIONS]> {
+    let mut charges = [0; REGIONS];
+    for (region, (charge, &number)) in charges.iter_mut().zip(numbers).enumerate() {
+        if number != 0 && regions >> region & 1 == 0 {
+            return None;
+        }
+        *charge = field_2
+            .checked_add(number)
+            .filter(|&sum| sum <= STANDING_LIMIT)?;
+    }
+    Some(charges)
+}
+
 impl Tariff {
-    /// Reads a record of 13 numbers; `None` if it is no tariff.
+    /// Reads a record of 27 numbers; `None` if it is no tariff.
     pub fn new(record: &[u32]) -> Option<Tariff> {
         let record: &[u32; RECORD] = record.try_into().ok()?;
         let [kind, n, standing, regions, methods, ..] = *record;
-        let (rates, steps) = record[5..].split_at(4);
+        let (rates, steps) = record[5..REGIONAL].split_at(4);
 
         let counts = match kind {
             1 => 1..=4,
@@ -122,6 +142,7 @@ impl Tariff {
         {
             return None;
         }
+        let standing = standing_charges(standing, regions, &record[REGIONAL..])?;
         let n = n as usize;
         let (rates, unused_rates) = rates.split_at(n);
         let used_steps = match kind {
@@ -183,9 +204,9 @@ impl Tariff {
         self.arrangement
     }
 
-    /// The standing charge per day, in mills.
-    pub fn standing(&self) -> u32 {
-        self.standing
+    /// The standing charge per day in a region, in mills.
+    pub fn standing(&self, region: usize) -> u32 {
+        self.standing[region]
     }
 
     pub fn offers_region(&self, region: u32) -> bool {

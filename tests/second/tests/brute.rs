@@ -4,17 +4,17 @@ mod common;
 
 use common::reference;
 use second::random::Random;
-use second::{period_days, Book, NotOpened};
+use second::{period_days, Book, NotOpened, RECORD, REGIONAL};
 
 /// A tariff as its record says, charged without any shortcut.
 struct Plain {
-    record: [u32; 13],
+    record: [u32; RECORD],
     /// 1,000 x the charge for each kWh count of one month, standing charge apart.
     by_kwh: Vec<i128>,
 }
 
 impl Plain {
-    fn new(record: [u32; 13], sheet: &[u32]) -> Plain {
+    fn new(record: [u32; RECORD], sheet: &[u32]) -> Plain {
         let n = record[1] as usize;
         let mut by_kwh = vec![0];
         for kwh in 1..=10_000u32 {
@@ -38,6 +38,7 @@ impl Plain {
 }
 
 struct Cell {
+    region: usize,
     nil: i128,
     rise: i128,
     m: i128,
@@ -48,7 +49,9 @@ struct Cell {
 impl Cell {
     /// 12,000 x m x (charge - maximum), straight from the definition.
     fn excess(&self, plain: &Plain, months: &[u32]) -> i128 {
-        let charge = 1_000 * i128::from(plain.record[2]) * self.days
+        let number = plain.record[REGIONAL + self.region];
+        let standing = i128::from(plain.record[2]) + i128::from(number);
+        let charge = 1_000 * standing * self.days
             + months
                 .iter()
                 .map(|&kwh| plain.by_kwh[kwh as usize])
@@ -102,7 +105,13 @@ fn random_sheet(random: &mut Random) -> (u32, u32, u32, Vec<u32>) {
     )
 }
 
-fn random_record(random: &mut Random, book: &Book, days: u32, t: u32, sheet: &[u32]) -> [u32; 13] {
+fn random_record(
+    random: &mut Random,
+    book: &Book,
+    days: u32,
+    t: u32,
+    sheet: &[u32],
+) -> [u32; RECORD] {
     let kind = random.pick(&[1, 1, 1, 2, 3]);
     let n = match kind {
         1 => random.between(1, 4),
@@ -114,7 +123,7 @@ fn random_record(random: &mut Random, book: &Book, days: u32, t: u32, sheet: &[u
     let rise = book.benchmark(0, arrangement, 1, 1).unwrap() - nil;
     let rate = (rise / sheet[93 + arrangement as usize]).min(190_000);
     let standing = (u64::from(nil) * u64::from(t) / (12 * u64::from(days))) as u32;
-    let mut record = [0; 13];
+    let mut record = [0; RECORD];
     record[0] = kind;
     record[1] = n;
     record[2] = (standing + 2)
@@ -148,6 +157,16 @@ fn random_record(random: &mut Random, book: &Book, days: u32, t: u32, sheet: &[u
         }
         record[8 + n as usize] = left;
     }
+    if random.one_in(2) {
+        // A part of the standing charge by region, a mill or two more or less.
+        let part = random.between(0, record[2]);
+        record[2] -= part;
+        let regions = record[3];
+        for region in (0..14).filter(|region| regions >> region & 1 == 1) {
+            let number = (part + random.between(0, 2)).saturating_sub(random.between(0, 2));
+            record[REGIONAL + region] = number.min(1_000_000 - record[2]);
+        }
+    }
     record
 }
 
@@ -169,7 +188,7 @@ fn all_lists(from: &[u32], t: usize, look: &mut dyn FnMut(&[u32])) {
 #[test]
 fn no_list_of_months_contradicts_open() {
     let mut random = Random::new(28);
-    let (mut opened, mut refused, mut later, mut tied) = (0, 0, 0, 0);
+    let (mut opened, mut refused, mut later, mut tied, mut by_number) = (0, 0, 0, 0, 0);
     for _ in 0..120 {
         let (year, month, t, sheet) = random_sheet(&mut random);
         let mut book = Book::new();
@@ -191,6 +210,7 @@ fn no_list_of_months_contradicts_open() {
                         i128::from(book.benchmark(region, arrangement, method, level).unwrap())
                     };
                     let cell = Cell {
+                        region: region as usize,
                         nil: at(0),
                         rise: at(1) - at(0),
                         m: i128::from(sheet[93 + arrangement as usize]),
@@ -211,7 +231,7 @@ fn no_list_of_months_contradicts_open() {
                     // No list does better: all of a few consumptions, equal months, any.
                     let mut near = vec![0, 1, 10_000];
                     if record[0] == 1 {
-                        for &step in record[9..].iter().filter(|&&step| step > 0) {
+                        for &step in record[9..13].iter().filter(|&&step| step > 0) {
                             near.extend([step - 1, step, step + 1]);
                         }
                     }
@@ -254,6 +274,10 @@ fn no_list_of_months_contradicts_open() {
                     assert_eq!(i128::from(breach.excess), excess);
                     refused += 1;
                     later += u32::from((region, method) != (0, 0));
+                    // With 0 for its region it is within the cap of the cell.
+                    let number = i128::from(record[REGIONAL + region as usize]);
+                    let m = i128::from(sheet[93 + arrangement as usize]);
+                    by_number += u32::from(excess <= 12_000 * m * number * i128::from(days));
                 }
                 (answer, first) => panic!("{answer:?} for {first:?} of {record:?}"),
             }
@@ -264,6 +288,7 @@ fn no_list_of_months_contradicts_open() {
     assert!(refused > 100, "{refused} refused");
     assert!(later > 30, "{later} in a later cell");
     assert!(tied > 100, "{tied} tied");
+    assert!(by_number > 20, "{by_number} by the number of a region");
 }
 
 /// A sheet demotes exactly the open tariffs that it would not open, and a trial names them.

@@ -27,12 +27,20 @@ fn answers() {
     let mut input = reference_line();
     input.push_str("benchmark 0 0 1 1\n");
     input.push_str("maximum 0 0 1 300\n");
-    input.push_str("put 4 1 2 20000 16383 3 20000 15000 0 0 100 0 0 0\n");
+    input.push_str(
+        "put 4 1 2 20000 16383 3 20000 15000 0 0 100 0 0 0 0 0 0 0 0 0 0 0 0 0 0 0 0 0\n",
+    );
     input.push_str("open 4\n");
     input.push_str("quote 4 0 1 300 0 0\n");
-    input.push_str("put 5 1 1 23000 16383 3 18000 0 0 0 0 0 0 0\n");
+    input.push_str("put 5 1 1 23000 16383 3 18000 0 0 0 0 0 0 0 0 0 0 0 0 0 0 0 0 0 0 0 0 0\n");
     input.push_str("open 5\nopen 5\nclose 5\nclose 5\ndrop 5\ndrop 5\n");
     input.push_str("put 5\nput 0\nset 0 0 0\nquote 4 0 1\nbenchmark 14 0 0 0\n");
+    // 13 numbers, as before M-104, and 28.
+    input.push_str("put 5 1 1 23000 16383 3 18000 0 0 0 0 0 0 0\n");
+    input.push_str(&format!(
+        "put 5 1 1 23000 16383 3 18000{}\n",
+        " 0".repeat(22)
+    ));
     assert_eq!(
         run(input.as_bytes()),
         "ok\n\
@@ -43,7 +51,8 @@ fn answers() {
          ok 246240000000000 279704700000000\n\
          ok\n\
          ok 28\nrefused 7\nok\nrefused 12\nok\nrefused 9\n\
-         refused 8\nrefused 6\nrefused 1\nrefused 13\nrefused 13\n"
+         refused 8\nrefused 6\nrefused 1\nrefused 13\nrefused 13\n\
+         refused 8\nrefused 8\n"
     );
 }
 
@@ -54,12 +63,16 @@ fn answers_of_trial() {
     let mut input = october.clone();
     input.push_str("open 1\nbenchmark 0 0 1 0\n");
     input.push_str(&set);
-    input.push_str("put 1 1 1 23960 16383 3 18000 0 0 0 0 0 0 0\nopen 1\n");
-    input.push_str("put 2 1 1 23000 16383 3 18000 0 0 0 0 0 0 0\nopen 2\n");
+    input.push_str(
+        "put 1 1 1 23960 16383 3 18000 0 0 0 0 0 0 0 0 0 0 0 0 0 0 0 0 0 0 0 0 0\nopen 1\n",
+    );
+    input.push_str(
+        "put 2 1 1 23000 16383 3 18000 0 0 0 0 0 0 0 0 0 0 0 0 0 0 0 0 0 0 0 0 0\nopen 2\n",
+    );
     input.push_str(&october);
     input.push_str("open 1\nquote 1 0 1 0 0 0\nclose 1\n");
     input.push_str(&october);
-    input.push_str("open 1\nput 32 1 1 23960 16383 3 18000 0 0 0 0 0 0 0\nopen 32\n");
+    input.push_str("open 1\nput 32 1 1 23960 16383 3 18000 0 0 0 0 0 0 0 0 0 0 0 0 0 0 0 0 0 0 0 0 0\nopen 32\n");
     input.push_str(&october);
     input.push_str(&set.replace("set", "trial"));
     input.push_str(&october.replace(" 10 1 ", " 13 1 "));

@@ -3,8 +3,8 @@
 
 mod common;
 
-use common::{reference, reference_book, tariff, ALL};
-use second::{field_range, Book, Breach, Maximum, NotOpened, Quote, Refusal, State};
+use common::{reference, reference_book, tariff, with_zeros, ALL};
+use second::{field_range, Book, Breach, Maximum, NotOpened, Quote, Refusal, State, RECORD};
 
 fn over_cap(answer: Result<u32, NotOpened>) -> Breach {
     match answer {
@@ -731,17 +731,20 @@ fn the_smallest_of_the_worst_months() {
 fn records() {
     let mut book = Book::new();
     let mut put = |record: &[u32]| number(book.put(1, record));
-    let one = [1, 1, 0, 1, 1, 5, 0, 0, 0, 0, 0, 0, 0];
-    let four = [1, 4, 0, 1, 1, 5, 5, 5, 5, 1, 2, 9_999, 0];
-    let e7 = [2, 2, 0, 1, 1, 5, 5, 0, 0, 0, 0, 0, 0];
-    let multi = [3, 3, 0, 1, 1, 5, 5, 5, 0, 0, 1_000, 0, 0];
+    let one = with_zeros([1, 1, 0, 1, 1, 5, 0, 0, 0, 0, 0, 0, 0]);
+    let four = with_zeros([1, 4, 0, 1, 1, 5, 5, 5, 5, 1, 2, 9_999, 0]);
+    let e7 = with_zeros([2, 2, 0, 1, 1, 5, 5, 0, 0, 0, 0, 0, 0]);
+    let multi = with_zeros([3, 3, 0, 1, 1, 5, 5, 5, 0, 0, 1_000, 0, 0]);
     for good in [one, four, e7, multi] {
         assert_eq!(put(&good), 0);
-        assert_eq!(put(&good[..12]), 8);
+        // Document 02, M-104: 27 numbers, and no longer 13.
+        for length in [1, 12, 13, 14, 26] {
+            assert_eq!(put(&good[..length]), 8);
+        }
         assert_eq!(put(&[&good[..], &[0]].concat()), 8);
     }
     assert_eq!(put(&[]), 8);
-    let with = |record: [u32; 13], changes: &[(usize, u32)]| {
+    let with = |record: [u32; RECORD], changes: &[(usize, u32)]| {
         let mut record = record;
         for &(place, value) in changes {
             record[place] = value;

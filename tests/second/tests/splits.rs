@@ -6,7 +6,7 @@ mod common;
 
 use common::{reference, reference_book, tariff};
 use second::random::Random;
-use second::{period_days, Book, Maximum, NotOpened, Quote, Refusal, State};
+use second::{period_days, Book, Maximum, NotOpened, Quote, Refusal, State, RECORD};
 
 /// The reference sheet with this peak share and these fields changed.
 fn with(share: u32, changes: &[(usize, u32)]) -> Vec<u32> {
@@ -80,7 +80,7 @@ fn over(excess: u64, months: u32) -> Verdict {
 }
 
 /// The starred Economy 7 tariff of document 01.
-fn starred() -> [u32; 13] {
+fn starred() -> [u32; RECORD] {
     tariff(2, 23_000, &[18_000, 12_250], &[])
 }
 

@@ -225,6 +225,66 @@ fn random_calls_find_what_is_wrong_with_a_split() {
     );
 }
 
+/// Each of them as PUT takes the tariff, and so in all calls, and in each of the others alone.
+#[test]
+fn random_calls_find_what_is_wrong_with_a_standing_charge_by_region() {
+    for fault in [
+        "the charge of region 0 everywhere",
+        "the charge of the first region everywhere",
+        "the highest charge everywhere",
+        "the lowest charge everywhere",
+        "the number in place of the sum",
+        "field 2 alone",
+        "numbers from field 12 on",
+        "numbers from field 14 on",
+    ] {
+        for call in ["put", "set", "trial", "open", "quote"] {
+            let fault = format!("{call}: {fault}");
+            all_found(&[(&fault, "expected: ")], first_seed_answered);
+        }
+    }
+    for call in ["put", "set", "trial", "open", "quote"] {
+        let right = format!("{call}: the charge of the region");
+        first_seed(&wrong(&right)).unwrap();
+    }
+}
+
+#[test]
+fn random_calls_find_what_is_wrong_with_the_record_of_a_tariff() {
+    let taken = "expected: refused 8\n  answered: ok";
+    let refused = "expected: ok\n  answered: refused 8";
+    all_found(
+        &[
+            ("put: 13 numbers are enough", taken),
+            ("put: 26 numbers are enough", taken),
+            ("put: a 28th number is passed over", taken),
+            ("put: a number is refused", refused),
+            ("put: the record is read from field 12 on", "expected: "),
+            ("put: a number in a region not offered is taken", taken),
+            (
+                "put: a number in a region not offered is taken if the sum is",
+                taken,
+            ),
+            ("put: a sum of 1,000,000 is refused", refused),
+            ("put: a sum of 1,000,001 is taken", taken),
+            ("put: the sum in the first region alone", taken),
+            ("put: the sum in all regions but the first", taken),
+            ("put: the sum in all regions but the last", taken),
+            ("put: the numbers in place of the sums", taken),
+            ("put: sums that go round at 2^32", taken),
+            (
+                "put: sums that go round, if field 2 is above its range",
+                taken,
+            ),
+        ],
+        first_seed_answered,
+    );
+    for region in 0..14 {
+        let fault = format!("put: a number is taken in region {region}");
+        all_found(&[(&fault, taken)], first_seed_answered);
+    }
+}
+
 #[test]
 fn the_comparison_ends_whatever_the_program_does() {
     let parts: [Part; 3] = [fixed_conversations, fixed_fuzz, first_seed];

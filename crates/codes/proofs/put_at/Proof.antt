@@ -1,4 +1,4 @@
--- `codes::put_at` meets its contract: its checks settle the place, and a record that passes them has 13 numbers.
+-- `codes::put_at` meets its contract: its checks settle the place, and a record that passes them has 27 numbers.
 -- Assumes nothing.
 use mathlib.Core.Path.{_≡_, sym, _∙_, ap, ap₂}
 use denote.Ref.{now}

@@ -4,7 +4,6 @@ use mathlib.Core.Path.{_≡_, sym, _∙_, ap, ap₂}
 use mathlib.Core.Bool.{Bool, true, _&&_}
 use mathlib.Core.List.{List}
 use Prim.Native.Nat.{ℕ}
-use native.Mathlib.Omega.{arith}
 use lib.ListN.{getD}
 use denote.Ref.{now}
 use Rattle.refusal.specs.declared.Check.the-variants.{Pass}
@@ -13,10 +12,9 @@ use Rattle.refusal.proofs.Checks.{unless-passes, first-passes}
 use Rattle.laws.proofs.Every.{and-left, and-right}
 use Rattle.tariff.specs.declared.Tariff.{Tariff}
 use Rattle.tariff.specs.Tariff.{validTariff}
-use Rattle.tariff.proofs.Validity.{valid-standing}
 use Rattle.cap.specs.declared.CellNumbers.{CellNumbers}
 use Rattle.cap.specs.Cap.{charged, capped}
-use Rattle.verdict.specs.Cells.{cell, cellNumbers, tariffNumbers}
+use Rattle.verdict.specs.Cells.{cell, tariffNumbers}
 use Rattle.book.specs.Checks.{figuresOf}
 use Rattle.book.specs.Book.{tariffIn, beyond, sheetIn}
 use Rattle.book.specs.Settling.{codeCheck, emptyCheck, heldCheck}
@@ -120,37 +118,32 @@ returns c =
     (quote-answer (a .b) (st .pre) (a .code) (a .region) (a .method) (now (a .months)) (at h) (h .before .before .before .before .before .before .before .before .index-of .ensures .1))
     (checks h) (c .before .enum-told2 .given .1) (c .refused .ensures)
 
-arrangement-of-requires : tie.Need-arrangement-of-requires
-arrangement-of-requires c κs = search needs
-
-numbers-in-requires : tie.Need-numbers-in-requires
-numbers-in-requires c κs =
-    let t = c .before in
-    let h = t .before .before in
+numbers-of-requires : tie.Need-numbers-of-requires
+numbers-of-requires c κs =
+    let h = c .before .before in
     let st = start h in
     let x = h .before .before .before .before .before .tariff-in .ensures in
-    let w = cell-within _ _ _ (and-left (cellAllowed (tariff h) (st .args .region) (st .args .method)) _ (passed t .allows)) in
-    (figures-lawful (st .args .b) (st .pre) (passed t .loaded), omega (arith, c .arrangement-of .ensures .1), valid-standing _ (ap validTariff x ∙ passed t .valid), w .0, w .1)
+    let w = cell-within _ _ _ (and-left (cellAllowed (tariff h) (st .args .region) (st .args .method)) _ (passed c .allows)) in
+    (figures-lawful (st .args .b) (st .pre) (passed c .loaded), ap validTariff x ∙ passed c .valid, w .0, w .1)
 
 sides-of-requires : tie.Need-sides-of-requires
 sides-of-requires c κs =
-    let t = c .before .before in
+    let t = c .before in
     let h = t .before .before in
     let listed = and-right (cellAllowed (tariff h) _ _) (monthsAllowed _ _) (passed t .allows) in
     let x = h .before .before .before .before .before .tariff-in .ensures in
-    (c .numbers-in .ensures .1, ap validTariff x ∙ passed t .valid, months-for _ _ _ _ _ (c .numbers-in .ensures .0) _ listed)
+    (c .numbers-of .ensures .1, ap validTariff x ∙ passed t .valid, months-for _ _ _ _ _ (c .numbers-of .ensures .0) _ listed)
 
 returns-2 : tie.Need-returns-2
 returns-2 c =
     let e = c .before in
-    let t = e .before .before in
+    let t = e .before in
     let h = t .before .before in
     let st = start h in
     let a = st .args in
     let x : h .before .before .before .before .before .tariff-in .result ≡ tariff h = h .before .before .before .before .before .tariff-in .ensures in
-    let same : e .numbers-in .result ≡ tariffNumbers (figuresOf (sheetIn (a .b))) (tariff h) (cell (a .region) (a .method)) =
-    e .numbers-in .ensures .0
-    ∙ ap (λ (i : ℕ). cellNumbers (a .b .benchmarks) i (h .before .before .before .before .before .tariff-in .result .standing) (cell (a .region) (a .method))) (e .before .arrangement-of .ensures .0)
+    let same : e .numbers-of .result ≡ tariffNumbers (figuresOf (sheetIn (a .b))) (tariff h) (cell (a .region) (a .method)) =
+    e .numbers-of .ensures .0
     ∙ ap₂ (λ f y. tariffNumbers f y (cell (a .region) (a .method))) (figures-are (a .b) (st .pre) (passed t .loaded)) x in
     sides (now (a .months)) _ _ _ _ _ _ (c .sides-of .ensures .0) (c .sides-of .ensures .1) same x
     ∙ passed-on _ _ _ _
@@ -173,7 +166,6 @@ quote-spec =
     enum-told-2
     refused-requires
     returns
-    arrangement-of-requires
-    numbers-in-requires
+    numbers-of-requires
     sides-of-requires
     returns-2)

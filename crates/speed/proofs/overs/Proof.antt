@@ -1,10 +1,11 @@
--- `speed::overs` is safe and ends: each OPEN leaves a book that some list of calls leaves.
+-- `speed::overs` is safe and ends: each OPEN settles the place of the code, and with it stored the book is one that some list of calls leaves.
 -- Assumes nothing.
 use Prim.Native.Nat.{_-_, _≤_}
 use native.Mathlib.Omega.{arith}
 use Rattle.book.specs.Book.{Reachable}
-use Rattle.book.proofs.Reached.{does-reachable}
+use Rattle.codes.specs.declared.CodeAct.the-variants.{Open}
 use borrow.Author.Needs.{needs}
+use Rattle.speed.proofs.Held.{may-settle, stored}
 use Rattle.speed.proofs.overs.Statement.{statement}
 use Rattle.speed.proofs.overs.Tie as tie
 
@@ -26,11 +27,28 @@ next-requires c κs = search needs
 drawn-requires : tie.Need-drawn-requires Inv-loop μ-loop
 drawn-requires c κs = search needs
 
-add-act-on : tie.Need-add-act-on Inv-loop μ-loop
-add-act-on c = search needs
+add-code : tie.Need-add-code Inv-loop μ-loop
+add-code c = search needs
 
-act-on-requires : tie.Need-act-on-requires Inv-loop μ-loop
-act-on-requires c κs = search needs
+index-of-requires : tie.Need-index-of-requires Inv-loop μ-loop
+index-of-requires c κs = search needs
+
+mul-draft : tie.Need-mul-draft Inv-loop μ-loop
+mul-draft c = search needs
+
+element-copy-out-draft : tie.Need-element-copy-out-draft Inv-loop μ-loop
+element-copy-out-draft c = search needs
+
+settle-requires : tie.Need-settle-requires Inv-loop μ-loop
+settle-requires c κs =
+    let i = c .before .before in
+    may-settle (i .before .before .before .before .loop .inv .1) _ _ (i .index-of .ensures) Open
+
+mul-place : tie.Need-mul-place Inv-loop μ-loop
+mul-place c = search needs
+
+element-set-from-place : tie.Need-element-set-from-place Inv-loop μ-loop
+element-set-from-place c = search needs
 
 fold-reply-requires : tie.Need-fold-reply-requires Inv-loop μ-loop
 fold-reply-requires c κs = search needs
@@ -60,7 +78,10 @@ loop-less : tie.Need-loop-less Inv-loop μ-loop
 loop-less c = search needs
 
 loop-again : tie.Need-loop-again Inv-loop μ-loop
-loop-again c = (omega arith, does-reachable (c .before .before .before .before .before .before .before .before .before .before .before .loop .inv .1) (c .before .before .before .before .before .before .before .act-on .ensures))
+loop-again c =
+    let s = c .before .before .before .before .before .before .before in
+    let i = s .before .before .before in
+    (omega arith, stored (i .before .before .before .before .loop .inv .1) _ _ (i .index-of .ensures) Open _ (s .settle .ensures))
 
 returns : tie.Need-returns Inv-loop μ-loop
 returns c = search needs
@@ -75,8 +96,13 @@ overs-spec =
     loop-holds
     next-requires
     drawn-requires
-    add-act-on
-    act-on-requires
+    add-code
+    index-of-requires
+    mul-draft
+    element-copy-out-draft
+    settle-requires
+    mul-place
+    element-set-from-place
     fold-reply-requires
     array-read-wide
     wide-requires

@@ -24,6 +24,9 @@ x₅ c = x₃ (c .before .before .before .before)
 abbrev x₆ : tie.Else6 → Tariff
 x₆ c = x₅ (c .before .before)
 
+abbrev x₇ : tie.Else7 → Tariff
+x₇ c = x₆ (c .before .before)
+
 standing : (c : tie.Else1) → leb (x₁ c .standing) standingMost ≡ true
 standing c = le-leb _ _ (c .if1 .left)
 
@@ -40,10 +43,18 @@ methods c =
     let l = c .before .before in
     and-both _ _ (regions (l .before .before)) (and-both _ _ (le-leb _ _ (l .if4 .left)) (le-leb _ _ (c .if5 .left)))
 
+rates : (c : tie.Else6) →
+    (leb (x₆ c .standing) standingMost
+    && (leb 1 (x₆ c .regions) && leb (x₆ c .regions) 16383)
+    && (leb 1 (x₆ c .methods) && leb (x₆ c .methods) 3)
+    && ratesWithin (x₆ c .rates)) ≡ true
+unfolding ratesWithin
+rates c = and-both _ _ (methods (c .before .before)) (sym (c .before .all-within .ensures) ∙ not-false _ (c .if6 .left))
+
 -- behind all tests but the kind's
-kind : (c : tie.Else6) → validTariff (x₆ c) ≡ validKind (x₆ c)
-unfolding validTariff ratesWithin
-kind c = rw (methods (c .before .before), sym (c .before .all-within .ensures) ∙ not-false _ (c .if6 .left))
+kind : (c : tie.Else7) → validTariff (x₇ c) ≡ validKind (x₇ c)
+unfolding validTariff
+kind c = rw (rates (c .before .before), sym (c .before .regions-fit .ensures) ∙ not-false _ (c .if7 .left))
 
 returns : tie.Need-returns
 unfolding validTariff
@@ -76,6 +87,13 @@ returns-6 : tie.Need-returns-6
 unfolding validTariff ratesWithin
 returns-6 c = rw (methods (c .before .before), sym (c .before .all-within .ensures) ∙ not-true _ (c .if6 .taken))
 
+regions-fit-requires : tie.Need-regions-fit-requires
+regions-fit-requires c κs = search needs
+
+returns-7 : tie.Need-returns-7
+unfolding validTariff
+returns-7 c = rw (rates (c .before .before), sym (c .before .regions-fit .ensures) ∙ not-true _ (c .if7 .taken))
+
 single-register-requires : tie.Need-single-register-requires
 single-register-requires c κs = search needs
 
@@ -85,25 +103,25 @@ economy-7-requires c κs = search needs
 multi-register-requires : tie.Need-multi-register-requires
 multi-register-requires c κs = search needs
 
-returns-7 : tie.Need-returns-7
-returns-7 c =
-    let l = c .before .before in
-    c .single-register .ensures ∙ sym (kind l ∙ single (x₆ l) (c .before .match .keys1))
-
 returns-8 : tie.Need-returns-8
 returns-8 c =
     let l = c .before .before in
-    c .economy-7 .ensures ∙ sym (kind l ∙ double (x₆ l) (c .before .match .keys2))
+    c .single-register .ensures ∙ sym (kind l ∙ single (x₇ l) (c .before .match .keys1))
 
 returns-9 : tie.Need-returns-9
 returns-9 c =
     let l = c .before .before in
-    c .multi-register .ensures ∙ sym (kind l ∙ multiple (x₆ l) (c .before .match .keys3))
+    c .economy-7 .ensures ∙ sym (kind l ∙ double (x₇ l) (c .before .match .keys2))
 
 returns-10 : tie.Need-returns-10
 returns-10 c =
+    let l = c .before .before in
+    c .multi-register .ensures ∙ sym (kind l ∙ multiple (x₇ l) (c .before .match .keys3))
+
+returns-11 : tie.Need-returns-11
+returns-11 c =
     let r = c .match .rest in
-    sym (kind (c .before) ∙ no-kind (x₆ (c .before)) (r .0 .0 .1) (r .0 .1) (r .1))
+    sym (kind (c .before) ∙ no-kind (x₇ (c .before)) (r .0 .0 .1) (r .0 .1) (r .1))
 
 pub is-valid-spec : {M : Type 1} → statement M
 is-valid-spec =
@@ -116,10 +134,12 @@ is-valid-spec =
     returns-5
     all-within-requires
     returns-6
+    regions-fit-requires
+    returns-7
     single-register-requires
     economy-7-requires
     multi-register-requires
-    returns-7
     returns-8
     returns-9
-    returns-10)
+    returns-10
+    returns-11)

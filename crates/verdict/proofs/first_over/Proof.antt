@@ -13,10 +13,10 @@ use Rattle.verdict.proofs.first_over.Statement.{statement}
 use Rattle.verdict.proofs.first_over.Tie as tie
 
 abbrev Inv-loop : tie.InvT-loop
-Inv-loop b x charges arrangement m k region method₀ method = (method ≤ 2) × (firstBelow b x (2 * region + method) ≡ none)
+Inv-loop b x charges arrangement m k region standing method₀ method = (method ≤ 2) × (firstBelow b x (2 * region + method) ≡ none)
 
 abbrev μ-loop : tie.MeasureT-loop
-μ-loop b x charges arrangement m k region method₀ method = 2 - method
+μ-loop b x charges arrangement m k region standing method₀ method = 2 - method
 
 abbrev Inv-walk : tie.InvT-walk
 Inv-walk b x charges arrangement m k region₀ region = (region ≤ 14) × (firstBelow b x (2 * region) ≡ none)
@@ -24,28 +24,39 @@ Inv-walk b x charges arrangement m k region₀ region = (region ≤ 14) × (firs
 abbrev μ-walk : tie.MeasureT-walk
 μ-walk b x charges arrangement m k region₀ region = 14 - region
 
+-- the start, from the walk over the regions; and the walk, from the loop over the methods of a region
+abbrev start : tie.At-walk Inv-loop μ-loop Inv-walk μ-walk → tie.Start Inv-loop μ-loop Inv-walk μ-walk
+start w = w .before .before .before .before .before .before
+
+abbrev around : tie.At-loop Inv-loop μ-loop Inv-walk μ-walk → tie.At-walk Inv-loop μ-loop Inv-walk μ-walk
+around l = l .before .before .before .before .before
+
 -- the numbers that were read are those of the cell at hand, in which the corners are the tariff's
 module _ (c : tie.After-cell-numbers Inv-loop μ-loop Inv-walk μ-walk) where
-  in-region : c .before .before .before .before .before .before .before .before .before .walk .region < 14
-  in-region = omega (arith, c .before .before .before .before .before .before .before .before .if1 .left)
+  abbrev loop : tie.At-loop Inv-loop μ-loop Inv-walk μ-walk
+  loop = c .before .before .before .before .before
 
-  read : let a = c .before .before .before .before .before .before .before .before .before .before .before .before .before .before .before .args in
-      (c .cell-numbers .result ≡ tariffNumbers (a .b) (a .x) (cell (c .before .before .before .before .before .before .before .before .before .walk .region) (c .before .before .before .before .before .loop .method)))
-      × Cornered (c .cell-numbers .result .peak) (a .x) (c .cell-numbers .result .m) (c .before .before .before .before .before .before .before .before .before .before .corners-of .result)
+  abbrev st : tie.Start Inv-loop μ-loop Inv-walk μ-walk
+  st = start (around loop)
+
+  in-region : around loop .walk .region < 14
+  in-region = omega (arith, loop .before .before .before .before .if1 .left)
+
+  read : (c .cell-numbers .result ≡ tariffNumbers (st .args .b) (st .args .x) (cell (around loop .walk .region) (loop .loop .method)))
+      × Cornered (c .cell-numbers .result .peak) (st .args .x) (c .cell-numbers .result .m) (around loop .before .corners-of .result)
       × Fits (c .cell-numbers .result)
   read =
-      let st = c .before .before .before .before .before .before .before .before .before .before .before .before .before .before .before in
-      cell-read (st .args .b) (st .args .x) (st .pre .0) (st .pre .1) _ _ _ in-region (c .before .before .before .before .loop-test .taken) (c .before .before .before .before .before .before .before .before .before .before .before .before .arrangement-of .ensures .0) _
-      (c .cell-numbers .ensures (st .args .b) refl refl refl refl refl) _ _ (c .before .before .before .before .before .before .before .before .before .before .before .wide .ensures) (c .before .before .before .before .before .before .before .before .before .before .corners-of .ensures)
+      cell-read (st .args .b) (st .args .x) (st .pre .0) (st .pre .1) _ _ _ in-region (c .before .before .before .before .loop-test .taken) (around loop .before .before .before .arrangement-of .ensures .0)
+      _ (loop .before .standing-in .ensures .0) _ (c .cell-numbers .ensures (st .args .b) refl refl refl refl refl) _ _ (around loop .before .before .wide .ensures) (around loop .before .corners-of .ensures)
 
 -- so the answer is that of the cell
-decides : (c : tie.After-exceeds Inv-loop μ-loop Inv-walk μ-walk) → let n = c .before in let a = n .before .before .before .before .before .before .before .before .before .before .before .before .before .before .before .args in
-    exceedsAt (a .b) (a .x) (2 * n .before .before .before .before .before .before .before .before .before .walk .region + n .before .before .before .before .before .loop .method) ≡ c .exceeds .result
+decides : (c : tie.After-exceeds Inv-loop μ-loop Inv-walk μ-walk) → let n = c .before in let l = loop n in
+    exceedsAt (st n .args .b) (st n .args .x) (2 * around l .walk .region + l .loop .method) ≡ c .exceeds .result
 decides c =
     let n = c .before in
-    let a = n .before .before .before .before .before .before .before .before .before .before .before .before .before .before .before .args in
-    in-cell (a .b) (a .x) _ _ (n .before .before .before .before .loop-test .taken)
-    (sym (n .before .before .before .before .before .before .before .has .ensures) ∙ n .before .before .before .before .before .before .if2 .taken)
+    let l = loop n in
+    in-cell (st n .args .b) (st n .args .x) _ _ (n .before .before .before .before .loop-test .taken)
+    (sym (l .before .before .before .has .ensures) ∙ l .before .before .if2 .taken)
     (sym (n .before .before .before .has2 .ensures) ∙ n .before .before .if3 .taken)
     _ (read n .0) _ (c .exceeds .ensures)
 
@@ -74,7 +85,14 @@ has-requires : tie.Need-has-requires Inv-loop μ-loop Inv-walk μ-walk
 has-requires c κs = search needs
 
 loop-holds : tie.Need-loop-holds Inv-loop μ-loop Inv-walk μ-walk
-loop-holds c = let w = c .before .before .before in let st = w .before .before .before .before .before .before in (omega arith, region-starts (st .args .b) (st .args .x) (w .walk .region) (w .walk .inv .1))
+loop-holds c =
+    let w = c .before .before .before .before in
+    (omega arith, region-starts (start w .args .b) (start w .args .x) (w .walk .region) (w .walk .inv .1))
+
+standing-in-requires : tie.Need-standing-in-requires Inv-loop μ-loop Inv-walk μ-walk
+standing-in-requires c κs =
+    let w = c .before .before .before in
+    (start w .pre .1, omega (arith, c .before .before .if1 .left))
 
 has-requires-2 : tie.Need-has-requires-2 Inv-loop μ-loop Inv-walk μ-walk
 has-requires-2 c κs = search needs
@@ -86,7 +104,7 @@ cell-numbers-requires : tie.Need-cell-numbers-requires Inv-loop μ-loop Inv-walk
 cell-numbers-requires c κs = search needs
 
 exceeds-requires : tie.Need-exceeds-requires Inv-loop μ-loop Inv-walk μ-walk
-exceeds-requires c κs = (c .before .before .before .before .before .before .before .before .before .before .before .before .before .before .before .pre .1, read c .1, read c .2)
+exceeds-requires c κs = (st c .pre .1, read c .1, read c .2)
 
 add-method : tie.Need-add-method Inv-loop μ-loop Inv-walk μ-walk
 add-method c = search needs
@@ -97,10 +115,9 @@ loop-less c = search needs
 loop-again : tie.Need-loop-again Inv-loop μ-loop Inv-walk μ-walk
 loop-again c =
     let l = c .before .before .before in
-    let w = c .before .before .before .before .before .before .before in
-    let st = w .before .before .before .before .before .before in
-    let b = st .args .b in
-    let x = st .args .x in
+    let w = around l in
+    let b = start w .args .b in
+    let x = start w .args .x in
     let p = c .before .before .loop-test .taken in (
       omega arith,
       passed b x (w .walk .region) (l .loop .method) (l .loop .inv .1)
@@ -121,25 +138,23 @@ walk-less c = search needs
 walk-again : tie.Need-walk-again Inv-loop μ-loop Inv-walk μ-walk
 walk-again c =
     let w = c .before .before .before in
-    let st = w .before .before .before .before .before .before in
-    let b = st .args .b in
-    let x = st .args .x in (
+    let b = start w .args .b in
+    let x = start w .args .x in (
       omega (arith, c .before .before .if1 .left),
       ⊎-elim
-          (λ v. region-ends b x (w .walk .region) (v .1 .method) (v .1 .inv .0) (v .2 .left) (v .1 .inv .1))
+          (λ v. region-ends b x (w .walk .region) (v .2 .method) (v .2 .inv .0) (v .3 .left) (v .2 .inv .1))
           (λ v. region-passed b x (w .walk .region) (sym (c .before .has .ensures) ∙ v .left) (w .walk .inv .1))
           (c .if2 .came),
     )
 
 returns : tie.Need-returns Inv-loop μ-loop Inv-walk μ-walk
-returns c = let w = c .before in let st = w .before .before .before .before .before .before in walked (st .args .b) (st .args .x) (w .walk .region) (w .walk .inv .0) (c .if1 .taken) (w .walk .inv .1)
+returns c = let w = c .before in walked (start w .args .b) (start w .args .x) (w .walk .region) (w .walk .inv .0) (c .if1 .taken) (w .walk .inv .1)
 
 returns-2 : tie.Need-returns-2 Inv-loop μ-loop Inv-walk μ-walk
 returns-2 c =
     let j = c .before in
     let n = j .before in
-    let st = n .before .before .before .before .before .before .before .before .before .before .before .before .before .before .before in
-    over-cell (st .args .b) (st .args .x) _ _ (in-region n) (n .before .before .before .before .loop-test .taken) (n .before .before .before .before .before .loop .inv .1) (decides j ∙ c .if4 .taken)
+    over-cell (st n .args .b) (st n .args .x) _ _ (in-region n) (n .before .before .before .before .loop-test .taken) (loop n .loop .inv .1) (decides j ∙ c .if4 .taken)
 
 pub first-over-spec : {M : Type 1} → statement M
 first-over-spec =
@@ -156,6 +171,7 @@ first-over-spec =
     corners-of-requires
     walk-holds
     has-requires
+    standing-in-requires
     loop-holds
     has-requires-2
     slice-aggregate-cell-numbers

@@ -84,6 +84,13 @@ fn fixed_run(program: &Program, commit: Option<u64>, all_counts: bool) -> Result
         split.map(|(_, times)| times).sum(),
         "sheets set or tried, new in the peak share alone",
     );
+    let by_a_mill = counts
+        .iter()
+        .filter(|(what, _)| what.starts_with("11: by one mill of the number of "));
+    tell(
+        by_a_mill.map(|(_, times)| times).sum(),
+        "openings refused for one mill of a region's own standing charge",
+    );
     tell(
         count("lines sent one by one, answered before the next"),
         "lines in conversation, each answered before the next was sent",

@@ -12,7 +12,7 @@ use std::time::Duration;
 use second::desk::{Desk, LINE_LIMIT};
 use second::{
     field_value, operating_costs, period_days, Book, NotOpened, Refusal, State, Tariff, FIELDS,
-    PEAK_SHARE, RECORD, SMNCC, WHOLE,
+    PEAK_SHARE, RECORD, REGIONAL, REGIONS, SMNCC, STANDING_LIMIT, WHOLE,
 };
 
 const BLOCK: usize = 65_536;
@@ -24,8 +24,8 @@ struct WrongDesk {
     begun: Vec<u8>,
     /// The numbers of the last SET that was accepted.
     in_force: Vec<u32>,
-    /// The kind of the last tariff put at each code.
-    kinds: [u32; 33],
+    /// The last tariff put at each code.
+    records: [[u32; RECORD]; 33],
     /// The set of codes that this desk has kept open at the last SET, though they fell, and of
     /// those that it made drafts, though they did not.
     misjudged: (u32, u32),
@@ -97,12 +97,13 @@ impl WrongDesk {
         let mut words = text.split_ascii_whitespace();
         let call = words.next().unwrap_or_default();
         let numbers: Vec<u32> = words.flat_map(str::parse).collect();
-        let mut at_580 = None;
+        let mut elsewhere = None;
         let mut other = None;
         if is_call(line) {
-            at_580 = self.at_580(call, &numbers);
+            let book = self.wrong_book(call, &numbers);
+            elsewhere = book.and_then(|book| answer_of(book, call, &numbers));
             other = self.wrong_numbers(call, &numbers);
-            if call == "set" && self.is("set: open ones judged by the split before") {
+            if call == "set" && self.fault_of(call).is_some() {
                 self.misjudge(&numbers);
             }
         }
@@ -113,7 +114,7 @@ impl WrongDesk {
         let answer = &out[start..];
         let wrong = match (call, answer) {
             ("trial", [b'o' | b'r', ..]) => self.wrong_trial(&numbers),
-            (_, [b'o' | b'r', ..]) => at_580
+            (_, [b'o' | b'r', ..]) => elsewhere
                 .or_else(|| self.wrong_state(call, &numbers))
                 .or_else(|| self.wrong_figures(call, &numbers, answer)),
             _ => None,
@@ -127,7 +128,9 @@ impl WrongDesk {
         } else if call == "set" && answer == b"ok\n" {
             self.in_force = numbers;
         } else if call == "put" && answer == b"ok\n" {
-            self.kinds[numbers[0] as usize] = numbers[1];
+            let record = numbers[1..].try_into();
+            // A fault may have taken another length.
+            self.records[numbers[0] as usize] = record.unwrap_or([0; RECORD]);
         }
     }
 
@@ -176,18 +179,38 @@ impl WrongDesk {
     fn wrong_record(&self, numbers: &[u32]) -> Option<Vec<u32>> {
         let fault = self.fault_of("put")?;
         let mut other = numbers.to_vec();
+        match (fault, numbers.len() - 1) {
+            ("13 numbers are enough", 13) | ("26 numbers are enough", 26) => {
+                other.resize(1 + RECORD, 0);
+                return Some(other);
+            }
+            ("a 28th number is passed over", 28) => {
+                other.pop();
+                return Some(other);
+            }
+            _ => {}
+        }
         let record: &mut [u32; RECORD] = other.get_mut(1..)?.try_into().ok()?;
+        if let Some(by_region) = wrong_numbers_by_region(fault, record) {
+            *record = by_region;
+            return Some(other);
+        }
+        if let Some(charge) = wrong_charge(fault) {
+            Tariff::new(record)?;
+            *record = with_charges(record, charge)?;
+            return Some(other);
+        }
         let economy_7 = record[0] == 2 && Tariff::new(record).is_some();
         match fault {
             "shares in percent are taken" if record[0] == 3 => {
-                for share in &mut record[9..] {
+                for share in &mut record[9..REGIONAL] {
                     *share = share.wrapping_mul(10);
                 }
                 // Those in tenths too.
                 Tariff::new(record)?;
             }
             "a share of 1,001 is taken" if record[0] == 3 => {
-                for share in &mut record[9..] {
+                for share in &mut record[9..REGIONAL] {
                     *share = if *share == 1_001 { WHOLE } else { *share };
                 }
             }
@@ -199,7 +222,7 @@ impl WrongDesk {
             "two registers are Economy 7" if record[..2] == [3, 2] => {
                 Tariff::new(record)?;
                 record[0] = 2;
-                record[9..].fill(0);
+                record[9..REGIONAL].fill(0);
             }
             "Economy 7 keeps the split in force" if economy_7 => {
                 let share = self.in_force.get(3 + PEAK_SHARE).copied().unwrap_or(580);
@@ -211,35 +234,62 @@ impl WrongDesk {
         Some(other)
     }
 
-    /// The answer to an OPEN or to a QUOTE with the sheet in force at a peak share of 580.
-    fn at_580(&self, call: &str, numbers: &[u32]) -> Option<String> {
-        if self.fault_of(call)? != "Economy 7 at 580" || !["open", "quote"].contains(&call) {
+    /// The book by which an OPEN or a QUOTE is answered wrongly.
+    fn wrong_book(&self, call: &str, numbers: &[u32]) -> Option<Book> {
+        let fault = self.fault_of(call)?;
+        if !["open", "quote"].contains(&call) {
             return None;
         }
         let code = *numbers.first()?;
         let mut book = self.desk.book().clone();
-        if call == "open" && book.state(code) != Some(State::Draft) {
-            return None;
+        match book.state(code)? {
+            State::Draft => {}
+            State::Open if call == "quote" => book.close(code).ok()?,
+            _ => return None,
         }
-        let mut sheet = self.in_force.clone();
-        *sheet.get_mut(3 + PEAK_SHARE)? = 580;
-        book.set(sheet[0], sheet[1], sheet[2], &sheet[3..]).ok()?;
-        let mut desk = Desk::new();
-        *desk.book_mut() = book;
-        let mut answer = Vec::new();
-        desk.line(&call_line(call, numbers), &mut answer);
-        String::from_utf8(answer).ok()
+        if fault == "Economy 7 at 580" {
+            let mut sheet = self.in_force.clone();
+            *sheet.get_mut(3 + PEAK_SHARE)? = 580;
+            book.set(sheet[0], sheet[1], sheet[2], &sheet[3..]).ok()?;
+        } else {
+            let charge = wrong_charge(fault)?;
+            let record = with_charges(&self.records[code as usize], charge)?;
+            book.put(code, &record).ok()?;
+        }
+        Some(book)
     }
 
-    /// SET leaves open or makes a draft what the split of the sheet before says.
+    /// SET leaves open or makes a draft what the split of the sheet before says, or what other
+    /// standing charges say.
     fn misjudge(&mut self, numbers: &[u32]) {
         let book = self.desk.book();
         let Ok(right) = trial(book, numbers, numbers) else {
             return;
         };
-        let wrong = self.at_the_split_in_force(numbers);
-        let wrong = wrong.and_then(|before| trial(book, &before, &before).ok());
+        let wrong = if self.is("set: open ones judged by the split before") {
+            let before = self.at_the_split_in_force(numbers);
+            before.and_then(|before| trial(book, &before, &before).ok())
+        } else {
+            self.fallen_by_wrong_charges("set", numbers)
+        };
         self.misjudged = wrong.map_or((0, 0), |wrong| (right & !wrong, wrong & !right));
+    }
+
+    /// The set of the open codes that are over the cap of a sheet with other standing charges.
+    fn fallen_by_wrong_charges(&self, call: &str, numbers: &[u32]) -> Option<u32> {
+        let charge = wrong_charge(self.fault_of(call)?)?;
+        let mut judge = Book::new();
+        let set = judge.set(numbers[0], numbers[1], numbers[2], &numbers[3..]);
+        set.ok()?;
+        let mut fallen = 0;
+        for code in 1..=32 {
+            if self.desk.book().state(code) == Some(State::Open) {
+                let record = with_charges(&self.records[code as usize], charge)?;
+                judge.put(code, &record).ok()?;
+                fallen |= u32::from(judge.open(code).is_err()) << (code - 1);
+            }
+        }
+        Some(fallen)
     }
 
     /// The numbers of a sheet with the peak share of the one in force.
@@ -270,7 +320,10 @@ impl WrongDesk {
         let mut words: Vec<String> = answer.split_whitespace().map(str::to_string).collect();
         let over = answer.starts_with("refused 11 ");
         let ok = answer.starts_with("ok ");
-        let kind = |wanted: u32| self.kinds.get(numbers[0] as usize) == Some(&wanted);
+        let kind = |wanted: u32| {
+            let record = self.records.get(numbers[0] as usize);
+            record.is_some_and(|record| record[0] == wanted)
+        };
         let (places, by): (&[usize], fn(u64) -> u64) = match (call, fault) {
             ("open", "an excess over 1,200 x m") if over => (&[4], |value| value / 10),
             ("open", "an excess of kind 1 over 1,200 x m") if over && kind(1) => {
@@ -403,7 +456,7 @@ impl WrongDesk {
                 }
                 return None;
             }
-            _ => return None,
+            _ => self.fallen_by_wrong_charges("trial", numbers)?.into(),
         };
         Some(format!("ok {set}\n"))
     }
@@ -481,6 +534,150 @@ fn with_operating_costs(fields: &[u32; FIELDS], four: [i64; 4]) -> Option<Vec<u3
     Some(other)
 }
 
+/// The regions that a tariff is offered in.
+fn offered(record: &[u32; RECORD]) -> Vec<usize> {
+    let regions = record[3];
+    let offered = (0..REGIONS).filter(|region| regions >> region & 1 == 1);
+    offered.collect()
+}
+
+fn number(record: &[u32; RECORD], region: usize) -> u32 {
+    record[REGIONAL + region]
+}
+
+/// A record with these standing charges, by region, as its numbers. `None` if it is no tariff then.
+fn with_charges(
+    record: &[u32; RECORD],
+    charge: impl Fn(&[u32; RECORD], usize) -> u32,
+) -> Option<[u32; RECORD]> {
+    let mut other = *record;
+    other[2] = 0;
+    for region in offered(record) {
+        other[REGIONAL + region] = charge(record, region);
+    }
+    Tariff::new(&other).map(|_| other)
+}
+
+/// The standing charge that a fault takes for that of a tariff in a region.
+fn wrong_charge(fault: &str) -> Option<fn(&[u32; RECORD], usize) -> u32> {
+    fn numbers(record: &[u32; RECORD]) -> impl Iterator<Item = u32> + '_ {
+        let offered = offered(record).into_iter();
+        offered.map(move |region| number(record, region))
+    }
+    let charge: fn(&[u32; RECORD], usize) -> u32 = match fault {
+        "the charge of region 0 everywhere" => |record, _| record[2] + number(record, 0),
+        "the charge of the first region everywhere" => {
+            |record, _| record[2] + numbers(record).next().unwrap_or(0)
+        }
+        "the highest charge everywhere" => {
+            |record, _| record[2] + numbers(record).max().unwrap_or(0)
+        }
+        "the lowest charge everywhere" => {
+            |record, _| record[2] + numbers(record).min().unwrap_or(0)
+        }
+        "the number in place of the sum" => |record, region| number(record, region),
+        // No fault: what is found of the others is not their way of answering.
+        "the charge of the region" => |record, region| record[2] + number(record, region),
+        "field 2 alone" => |record, _| record[2],
+        "numbers from field 12 on" => {
+            |record, region| (record[2] + record[REGIONAL - 1 + region]).min(STANDING_LIMIT)
+        }
+        "numbers from field 14 on" => |record, region| {
+            let next = record.get(REGIONAL + 1 + region);
+            (record[2] + next.unwrap_or(&0)).min(STANDING_LIMIT)
+        },
+        _ => return None,
+    };
+    Some(charge)
+}
+
+/// What PUT takes for a record that its numbers by region spoil, or for one that they do not.
+fn wrong_numbers_by_region(fault: &str, record: &[u32; RECORD]) -> Option<[u32; RECORD]> {
+    let mut other = *record;
+    let offered = offered(record);
+    let field_2 = record[2];
+    let room = STANDING_LIMIT.checked_sub(field_2);
+    let sum = |region: usize| u64::from(field_2) + u64::from(number(record, region));
+    let limit = u64::from(STANDING_LIMIT);
+    let is_offered = |region: usize| offered.contains(&region);
+    // The sums are not looked at in these regions.
+    let unseen = |other: &mut [u32; RECORD], regions: &[usize]| {
+        for region in regions {
+            other[REGIONAL + region] = other[REGIONAL + region].min(room?);
+        }
+        Some(())
+    };
+    match fault {
+        "a sum of 1,000,000 is refused" => {
+            let at_limit = (0..REGIONS).any(|region| sum(region) == limit);
+            other[0] = 0;
+            return at_limit.then_some(other);
+        }
+        "a number is refused" => {
+            other[0] = 0;
+            return (record[REGIONAL..] != [0; REGIONS]).then_some(other);
+        }
+        "the record is read from field 12 on" => {
+            other.copy_within(REGIONAL - 1..RECORD - 1, REGIONAL);
+            return Some(other);
+        }
+        _ if Tariff::new(record).is_some() => return None,
+        "a number in a region not offered is taken" => {
+            for region in (0..REGIONS).filter(|&region| !is_offered(region)) {
+                other[REGIONAL + region] = 0;
+            }
+        }
+        "a number in a region not offered is taken if the sum is" => {
+            let small = (0..REGIONS).filter(|&region| sum(region) <= limit);
+            for region in small.filter(|&region| !is_offered(region)) {
+                other[REGIONAL + region] = 0;
+            }
+        }
+        "a sum of 1,000,001 is taken" => {
+            for region in (0..REGIONS).filter(|&region| sum(region) == limit + 1) {
+                other[REGIONAL + region] = room?;
+            }
+        }
+        "the sum in the first region alone" => unseen(&mut other, offered.get(1..)?)?,
+        "the sum in all regions but the first" => unseen(&mut other, offered.get(..1)?)?,
+        "the sum in all regions but the last" => {
+            let last = offered.len().checked_sub(1)?;
+            unseen(&mut other, &offered[last..])?;
+        }
+        "the numbers in place of the sums" => {
+            let within = offered.iter().copied();
+            let within = within.filter(|&region| number(record, region) <= STANDING_LIMIT);
+            let within: Vec<usize> = within.collect();
+            unseen(&mut other, &within)?;
+        }
+        "sums that go round at 2^32" => {
+            room?;
+            return with_charges(record, |_, region| sum(region) as u32);
+        }
+        "sums that go round, if field 2 is above its range" if room.is_none() => {
+            return with_charges(record, |_, region| sum(region) as u32);
+        }
+        _ => {
+            let region = fault.strip_prefix("a number is taken in region ")?;
+            let region = region.parse().ok()?;
+            if is_offered(region) {
+                return None;
+            }
+            other[REGIONAL + region] = 0;
+        }
+    }
+    Tariff::new(&other).map(|_| other)
+}
+
+/// The answer that a desk with this book gives to a call.
+fn answer_of(book: Book, call: &str, numbers: &[u32]) -> Option<String> {
+    let mut desk = Desk::new();
+    *desk.book_mut() = book;
+    let mut answer = Vec::new();
+    desk.line(&call_line(call, numbers), &mut answer);
+    String::from_utf8(answer).ok()
+}
+
 /// Whether a line is a call, well written.
 fn is_call(line: &[u8]) -> bool {
     let mut answer = Vec::new();
@@ -506,7 +703,7 @@ fn work(fault: &str) -> io::Result<ExitCode> {
         desk: Desk::new(),
         begun: Vec::new(),
         in_force: Vec::new(),
-        kinds: [0; 33],
+        records: [[0; RECORD]; 33],
         misjudged: (0, 0),
     };
     match fault {

@@ -146,7 +146,7 @@ impl Counts {
     }
 
     /// Whether a tariff is over the cap of the sheet in force if the peak share is another.
-    fn over_at(&mut self, share: u32, record: &[u32; RECORD]) -> bool {
+    pub(super) fn over_at(&mut self, share: u32, record: &[u32; RECORD]) -> bool {
         let known = self.at_shares.iter().position(|&(known, _)| known == share);
         let place = known.unwrap_or_else(|| {
             let [year, month, t] = self.period.expect("a sheet in force");

@@ -105,6 +105,8 @@ impl Counts {
             }
         }
 
+        self.fall_by_number("trial", tried.fallen, &mut after);
+
         let mut drafts = (1..=32).filter(|&code| book.state(code) == Some(State::Draft));
         if drafts.any(|code| after.open(code).is_err()) {
             let what = "trial with a draft over the cap of its sheet";

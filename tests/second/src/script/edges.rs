@@ -28,7 +28,7 @@ pub fn all_periods() -> Vec<u8> {
             fields,
         }
     };
-    writer.put(1, &[1, 1, 1, 1 << 13, 2, 0, 0, 0, 0, 0, 0, 0, 0]);
+    writer.put(1, &record_of(1, 1, 1, 1 << 13, 2));
     writer.set(&sheet(2018, 1, 1, 31));
     writer.open(1);
     for year in 2018..=2099 {

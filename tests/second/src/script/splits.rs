@@ -98,8 +98,8 @@ impl Writer {
             _ => self.any_share(),
         };
         let [first, second] = self.rates_for(thousandths / m, share)?;
-        let (region, method) = (1 << region, 1 << method);
-        let mut record = [kind, 2, 0, region, method, first, second, 0, 0, 0, 0, 0, 0];
+        let mut record = record_of(kind, 2, 0, 1 << region, 1 << method);
+        (record[5], record[6]) = (first, second);
         if kind == 3 {
             (record[9], record[10]) = (share, WHOLE - share);
         }
@@ -163,10 +163,7 @@ impl Writer {
             self.split(&mut dated);
             self.set(&dated);
         }
-        let code = self.code_in(State::Draft, 1_000);
-        if self.book.state(code) == Some(State::Open) {
-            self.close(code);
-        }
+        let code = self.code_to_put();
         let record = self.economy_7();
         self.put(code, &record);
         self.open(code);
@@ -193,13 +190,9 @@ impl Writer {
 
     /// Quotes a used code in a cell of its own, with all the months at an end of their range.
     fn quote_at_an_end(&mut self, code: u32) {
-        if self
-            .index_of(code)
-            .is_none_or(|i| self.records[i].is_none())
-        {
+        let Some(record) = self.used_record(code) else {
             return;
-        }
-        let record = self.record(code);
+        };
         let (region, method) = (self.random_bit(record[3]), self.random_bit(record[4]));
         let kwh = self.random.pick(&[0, MONTH_LIMIT, MONTH_LIMIT]);
         let t = self.book.t().unwrap_or(3) as usize;

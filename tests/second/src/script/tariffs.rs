@@ -16,21 +16,26 @@ impl Writer {
         }
     }
 
-    /// The highest standing charge, or the highest value of one rate, at which the tariff
-    /// is within the cap, and its place in the record; `None` if no value is both within
+    /// The highest value of field 2, of one rate or of the number of one offered region, at which
+    /// the tariff is within the cap, and its place in the record; `None` if no value is both within
     /// the cap and next to one that is not.
     pub(super) fn fit(&mut self, record: &[u32; RECORD]) -> Option<(usize, u32)> {
-        let place = if self.random.one_in(3) {
-            2
-        } else {
-            5 + self.random.index(record[1] as usize)
+        let place = match self.random.below(7) {
+            0..=1 => 2,
+            2 => REGIONAL + self.random_bit(record[3]) as usize,
+            _ => 5 + self.random.index(record[1] as usize),
         };
+        Some((place, self.fit_at(record, place)?))
+    }
+
+    /// The same for this place of the record.
+    pub(super) fn fit_at(&mut self, record: &[u32; RECORD], place: usize) -> Option<u32> {
         let mut record = *record;
         let mut within = 0;
-        let mut over = if place == 2 {
-            STANDING_LIMIT
-        } else {
-            RATE_LIMIT
+        let mut over = match place {
+            2 => STANDING_LIMIT - highest_number(&record),
+            5..=8 => RATE_LIMIT,
+            _ => STANDING_LIMIT - record[2],
         };
         record[place] = over;
         self.breach_of(&record)?;
@@ -47,10 +52,11 @@ impl Writer {
                 within = middle;
             }
         }
-        Some((place, within))
+        Some(within)
     }
 
-    /// The standing charge and the rate that the tightest offered cell just allows.
+    /// The standing charge and the rate that the tightest offered cell just allows. The numbers by
+    /// region are not looked at.
     pub(super) fn allowed(&self, record: &[u32; RECORD]) -> (u32, u32) {
         let arrangement = u32::from(record[0] != 1);
         let m = self.sheet.fields[93 + arrangement as usize];
@@ -135,13 +141,13 @@ impl Writer {
             _ => self.random.between(2, 4),
         };
         let (regions, methods) = self.offer();
-        let mut record = [kind, n, 0, regions, methods, 0, 0, 0, 0, 0, 0, 0, 0];
+        let mut record = record_of(kind, n, 0, regions, methods);
         let steps = match kind {
             1 => self.steps(n as usize - 1),
             2 => [0; 4],
             _ => self.shares(n as usize, WHOLE),
         };
-        record[9..].copy_from_slice(&steps);
+        record[9..REGIONAL].copy_from_slice(&steps);
 
         let (standing, rate) = self.allowed(&record);
         let scale = |random: &mut Random, value: u32, limit: u32| -> u32 {
@@ -182,6 +188,9 @@ impl Writer {
                     *place = scale(&mut self.random, rate, RATE_LIMIT);
                 }
             }
+        }
+        if self.random.one_in(2) {
+            self.by_region(&mut record);
         }
         record
     }
@@ -235,7 +244,7 @@ impl Writer {
         };
         let methods = self.random.pick(&[1, 2, 3, 3, 3]);
         let standing = self.random.between(18_000, 24_000);
-        let mut record = [kind, n, standing, regions, methods, 0, 0, 0, 0, 0, 0, 0, 0];
+        let mut record = record_of(kind, n, standing, regions, methods);
         for place in &mut record[5..5 + n as usize] {
             *place = self.random.between(12_000, 16_000);
         }
@@ -255,7 +264,7 @@ impl Writer {
             2 => [0; 4],
             _ => self.shares(n as usize, WHOLE),
         };
-        record[9..].copy_from_slice(&steps);
+        record[9..REGIONAL].copy_from_slice(&steps);
         record
     }
 
@@ -276,7 +285,7 @@ impl Writer {
         let common = gcd(rise, m);
         let (p, q) = (u64::from(rise / common), m / common);
         let rate = rise / m;
-        let mut record = [1, 0, 0, 1 << region, 1 << method, 0, 0, 0, 0, 0, 0, 0, 0];
+        let mut record = record_of(1, 0, 0, 1 << region, 1 << method);
         if arrangement == 1 {
             // As flat as the cap from 0 to 10,000.
             let kind = self.random.between(2, 3);
@@ -327,6 +336,9 @@ impl Writer {
             1 => STANDING_LIMIT,
             _ => (standing + 1).min(STANDING_LIMIT),
         };
+        if self.random.one_in(2) {
+            self.alike(&mut record);
+        }
         Some(record)
     }
 
@@ -334,17 +346,17 @@ impl Writer {
     pub(super) fn bad_record(&mut self) -> Vec<u32> {
         let mut record = self.shape().to_vec();
         let n = record[1] as usize;
-        let way = match self.random.below(21) {
+        let way = match self.random.below(30) {
             0 => {
                 record.pop();
-                "record: 12 numbers"
+                "record: 26 numbers"
             }
             1 => {
                 record.push(0);
-                "record: 14 numbers"
+                "record: 28 numbers"
             }
             2 => {
-                let count = self.random.pick(&[0, 1, 5, 9, 26, 96, 500]);
+                let count = self.random.pick(&[0, 1, 5, 9, 12, 14, 25, 40, 96, 500]);
                 record.resize(count, 0);
                 "record: another length"
             }
@@ -368,6 +380,7 @@ impl Writer {
             }
             6 => {
                 record[3] = 0;
+                record[REGIONAL..].fill(0);
                 "record: no region"
             }
             7 => {
@@ -448,12 +461,12 @@ impl Writer {
                     (60_000, 6_536),
                     (0x8000_01f4, 0x8000_01f4),
                 ]);
-                record[11..].fill(0);
+                record[11..REGIONAL].fill(0);
                 "record: share above 1,000"
             }
             19 => {
                 record = self.shape_where(|r| r[0] == 3).to_vec();
-                record[9..].fill(0);
+                record[9..REGIONAL].fill(0);
                 let place = 9 + self.random.index(record[1] as usize);
                 record[place] = WHOLE + 1;
                 "record: share of 1,001, the others 0"
@@ -461,10 +474,10 @@ impl Writer {
             18 => {
                 record = self.shape_where(|r| r[0] == 3).to_vec();
                 let shares = self.shares(record[1] as usize, 100);
-                record[9..].copy_from_slice(&shares);
+                record[9..REGIONAL].copy_from_slice(&shares);
                 "record: shares in percent"
             }
-            _ => {
+            20 => {
                 record = self.shape_where(|r| r[0] == 3 && r[1] < 4).to_vec();
                 let place = 9 + self.random.between(record[1], 3) as usize;
                 let used = self.random.index(record[1] as usize);
@@ -476,6 +489,22 @@ impl Writer {
                     record[place] = self.random.pick(&[1, WHOLE, u32::MAX]);
                 }
                 "record: share past n"
+            }
+            21 => {
+                record.truncate(REGIONAL);
+                "record: 13 numbers"
+            }
+            22..=24 => {
+                record = self.not_offered().to_vec();
+                "record: a number in a region not offered"
+            }
+            25..=28 => {
+                record = self.past_the_sum().to_vec();
+                "record: a sum above 1,000,000"
+            }
+            _ => {
+                record = self.field_2_past().to_vec();
+                "record: field 2 above 1,000,000, with numbers by region"
             }
         };
         if self.scratch.put(1, &record).is_err() {
@@ -492,6 +521,11 @@ impl Writer {
             }
         }
     }
+}
+
+/// The highest of the numbers by region.
+pub(super) fn highest_number(record: &[u32; RECORD]) -> u32 {
+    record[REGIONAL..].iter().copied().fold(0, u32::max)
 }
 
 fn gcd(a: u32, b: u32) -> u32 {

@@ -103,11 +103,19 @@ impl Writer {
     }
 
     /// A tariff that costs something and that the sheet in force lets open, if there is room.
-    fn record_within(&mut self) -> [u32; RECORD] {
+    pub(super) fn record_within(&mut self) -> [u32; RECORD] {
         let mut record = self.any_record();
-        record[2] = record[2].max(1);
-        while self.breach_of(&record).is_some() && (record[2] > 1 || record[5..9] != [0; 4]) {
-            record[2] = (record[2] / 4 * 3).max(1);
+        if record[2] == 0 && record[REGIONAL..] == [0; REGIONS] {
+            record[2] = 1;
+        }
+        let dearer = |record: &[u32; RECORD]| {
+            record[2] > 1 || record[5..9] != [0; 4] || record[REGIONAL..].iter().any(|&n| n > 1)
+        };
+        while self.breach_of(&record).is_some() && dearer(&record) {
+            record[2] = lower(record[2]);
+            for number in &mut record[REGIONAL..] {
+                *number = lower(*number);
+            }
             for rate in &mut record[5..9] {
                 *rate = *rate / 4 * 3;
             }
@@ -117,8 +125,14 @@ impl Writer {
 
     /// Lower network costs, by as much at m as at nil, in all regions or in one.
     fn squeeze(&mut self, dated: &mut Dated) {
+        let only = self.random.one_in(3).then(|| self.region());
+        self.squeeze_in(only, dated);
+    }
+
+    /// The same in all regions, or in this one.
+    pub(super) fn squeeze_in(&mut self, only: Option<u32>, dated: &mut Dated) {
         let most = self.random.pick(&[3, 3_000, 300_000, 2_000_000]);
-        let only = self.random.one_in(3).then(|| self.region() as usize);
+        let only = only.map(|region| region as usize);
         for region in (0..REGIONS).filter(|&region| only.is_none_or(|only| only == region)) {
             for pair in [37 + 4 * region, 39 + 4 * region] {
                 let (nil, m) = (dated.fields[pair], dated.fields[pair + 1]);
@@ -156,4 +170,9 @@ impl Writer {
             }
         }
     }
+}
+
+/// A quarter less of a charge, and not 0 if it was none.
+fn lower(charge: u32) -> u32 {
+    (charge / 4 * 3).max(charge.min(1))
 }

@@ -1,7 +1,7 @@
 //! The reference sheet, written out from document 01, with the split of 28AD.31 (document 02, M-103).
 #![allow(dead_code)]
 
-use second::Book;
+use second::{Book, RECORD, REGIONAL};
 
 pub const ALL: u32 = 16_383;
 
@@ -34,11 +34,27 @@ pub fn reference_book() -> Book {
     book
 }
 
-/// A tariff in all regions and by both methods.
-pub fn tariff(kind: u32, standing: u32, rates: &[u32], steps: &[u32]) -> [u32; 13] {
-    let mut record = [0; 13];
+/// A tariff in all regions and by both methods, with 0 for each region.
+pub fn tariff(kind: u32, standing: u32, rates: &[u32], steps: &[u32]) -> [u32; RECORD] {
+    let mut record = [0; RECORD];
     record[..5].copy_from_slice(&[kind, rates.len() as u32, standing, ALL, 3]);
     record[5..5 + rates.len()].copy_from_slice(rates);
     record[9..9 + steps.len()].copy_from_slice(steps);
+    record
+}
+
+/// The record that begins with these numbers and has 0 for each region.
+pub fn with_zeros(first: [u32; REGIONAL]) -> [u32; RECORD] {
+    let mut record = [0; RECORD];
+    record[..REGIONAL].copy_from_slice(&first);
+    record
+}
+
+/// The record with these numbers for these regions.
+pub fn by_region(record: [u32; RECORD], numbers: &[(usize, u32)]) -> [u32; RECORD] {
+    let mut record = record;
+    for &(region, number) in numbers {
+        record[REGIONAL + region] = number;
+    }
     record
 }

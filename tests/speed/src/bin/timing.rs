@@ -29,7 +29,7 @@ const SET: usize = 0;
 const TRIAL: usize = 5;
 
 /// By the number that the programs know them by.
-const MEASUREMENTS: [Measurement; 6] = [
+const MEASUREMENTS: [Measurement; 7] = [
     Measurement {
         name: "SET, 32 open tariffs",
         calls: 150_000,
@@ -59,6 +59,11 @@ const MEASUREMENTS: [Measurement; 6] = [
         name: "TRIAL, 32 open tariffs",
         calls: 150_000,
         bar: Some(2.0),
+    },
+    Measurement {
+        name: "OPEN and CLOSE, the book handed over and back",
+        calls: 2_500_000,
+        bar: None,
     },
 ];
 

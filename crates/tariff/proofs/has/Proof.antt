@@ -1,10 +1,10 @@
--- `verdict::has` meets its contract.
+-- `tariff::has` meets its contract.
 -- Assumes nothing.
 use mathlib.Core.Path.{refl}
 use Rattle.laws.specs.Notions.{bit}
 use borrow.Author.Needs.{needs}
-use Rattle.verdict.proofs.has.Statement.{statement}
-use Rattle.verdict.proofs.has.Tie as tie
+use Rattle.tariff.proofs.has.Statement.{statement}
+use Rattle.tariff.proofs.has.Tie as tie
 
 shr-result : tie.Need-shr-result
 shr-result c = search needs

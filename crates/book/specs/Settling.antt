@@ -2,11 +2,12 @@
 -- Assumes nothing.
 use mathlib.Core.Path.{_≡_}
 use mathlib.Core.Bool.{Bool, true, false, not, cond}
-use Prim.Native.Nat.{ℕ, suc}
-use lib.ListN.{replicate}
+use Prim.Native.Nat.{ℕ, suc, _<_}
+use lib.ListN.{getD, replicate}
 use Rattle.refusal.specs.declared.Check.{Check}
 use Rattle.refusal.specs.declared.Check.the-variants.{Pass, Refuse}
 use Rattle.refusal.specs.Checks.{unless, first, checked}
+use Rattle.benchmark.specs.declared.Benchmarks.{Benchmarks}
 use Rattle.book.specs.declared.State.{State}
 use Rattle.book.specs.declared.State.the-variants.{Empty, Draft, Open}
 use Rattle.book.specs.declared.Reply.{Reply}
@@ -17,7 +18,7 @@ use Rattle.book.specs.declared.Done.{Done}
 use Rattle.book.specs.declared.Book.{Book}
 use Rattle.book.specs.Calls.{Answer, refused, isAccepted}
 use Rattle.book.specs.Checks.{inside}
-use Rattle.book.specs.Book.{withPlace}
+use Rattle.book.specs.Book.{beyond, withPlace, Reachable}
 use Rattle.book.specs.Promises.{answerOf, NoughtPast}
 
 -- 6: code outside 1 to 32
@@ -74,3 +75,13 @@ pub record Settles (check : Check) (next : Answer) (before after : Place) (r : S
   pub answers : answerOf (r .reply) (r .months) ≡ checked refused check next
   pub leaves : r .place ≡ cond (isAccepted (checked refused check next)) after before
   pub rest-nought : NoughtPast (r .reply) (r .months)
+
+-- What is handed to a call on a code in place of a book that its caller holds: the book, which calls leave, has place p at index i, which is
+-- that of code k, and these figures of a sheet, if one is loaded
+pub record HasPlace (b : Book) (k i : ℕ) (p : Place) (loaded : Bool) (figures : Benchmarks) : Type 0 where
+  pub reachable : Reachable b
+  pub within : i < 32
+  pub index : inside k ≡ true → suc i ≡ k
+  pub place : getD (b .places) i beyond ≡ p
+  pub is-loaded : b .loaded ≡ loaded
+  pub has-figures : b .benchmarks ≡ figures

@@ -1,15 +1,11 @@
 -- What the functions of this crate promise.
 -- Assumes nothing.
 use mathlib.Core.Path.{_≡_}
-use mathlib.Core.Bool.{Bool, true}
 use mathlib.Core.List.{List}
-use Prim.Native.Nat.{ℕ, suc, _<_, _≤_}
-use lib.ListN.{length, getD, take}
-use Rattle.benchmark.specs.declared.Benchmarks.{Benchmarks}
-use Rattle.book.specs.declared.Place.{Place}
+use Prim.Native.Nat.{ℕ, _≤_}
+use lib.ListN.{length, take}
 use Rattle.book.specs.declared.Book.{Book}
-use Rattle.book.specs.Checks.{inside}
-use Rattle.book.specs.Book.{beyond, Reachable}
+use Rattle.book.specs.Book.{Reachable}
 use Rattle.texts.specs.Writing.{Puts}
 use Rattle.request.specs.declared.Word.{Word}
 use Rattle.request.specs.declared.Word.the-variants as word
@@ -33,12 +29,3 @@ abbrev pub Says : Said → (b : Book) (line : Response) (at : ℕ) (before after
 Says (Answer next) b line at before after numbers = Answered line b before at next after
 Says (Set n) b line at before after numbers = ToDo word.Set n b line before after numbers
 Says (On s n) b line at before after numbers = ToDo (word.On s) n b line before after numbers
-
--- a book that calls leave has place p at index i, which is that of code k, and these figures of a sheet, if one is loaded
-pub record HasPlace (b : Book) (k i : ℕ) (p : Place) (loaded : Bool) (figures : Benchmarks) : Type 0 where
-  pub reachable : Reachable b
-  pub within : i < 32
-  pub index : inside k ≡ true → suc i ≡ k
-  pub place : getD (b .places) i beyond ≡ p
-  pub is-loaded : b .loaded ≡ loaded
-  pub has-figures : b .benchmarks ≡ figures

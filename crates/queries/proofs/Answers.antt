@@ -10,15 +10,17 @@ use Rattle.refusal.specs.declared.Check.{Check}
 use Rattle.refusal.specs.declared.Check.the-variants.{Pass, Refuse}
 use Rattle.refusal.specs.Checks.{unless, first, checked, need, given}
 use Rattle.refusal.proofs.Checks.{need-checked}
+use Rattle.benchmark.specs.declared.Benchmarks.{Benchmarks}
 use Rattle.benchmark.specs.Benchmark.{benchmark}
 use Rattle.tariff.specs.declared.Tariff.{Tariff}
 use Rattle.book.specs.declared.State.{State}
 use Rattle.book.specs.declared.State.the-variants.{Empty, Draft, Open}
+use Rattle.book.specs.declared.Place.{Place}
 use Rattle.book.specs.declared.Book.{Book}
 use Rattle.book.specs.Calls.{Sheet}
 use Rattle.book.specs.Checks.{inside}
 use Rattle.book.specs.Book.{tariffIn, beyond, heldIn, sheetIf, sheetIn, inForce, Reachable}
-use Rattle.book.specs.Settling.{emptyCheck, heldCheck}
+use Rattle.book.specs.Settling.{emptyCheck, heldCheck, HasPlace}
 use Rattle.book.proofs.Steps.{read-there}
 use Rattle.queries.specs.declared.Told.{Told}
 use Rattle.queries.specs.Queries.{Telling, refused, benchmarkCharge, maximumCharge, quotation, tellingOf, inRanges, benchmarkOf, maximumOf, maximumIn, cellAllowed, monthsAllowed, quotationIn, quoteOf}
@@ -69,7 +71,7 @@ behind-10 : (l : Bool) (c d : Check) → (l ≡ true → c ≡ d) → first (unl
 behind-10 true c d h = h refl
 behind-10 false c d h = refl
 
-pub quote-answer : (b : Book) → Reachable b → (k r m : ℕ) (months : List ℕ) (at : ℕ) → (inside k ≡ true → suc at ≡ k)
+quote-answer : (b : Book) → Reachable b → (k r m : ℕ) (months : List ℕ) (at : ℕ) → (inside k ≡ true → suc at ≡ k)
     → let p = getD (b .places) at beyond in
     quoteOf b k r m months
     ≡ checked refused (heldCheck k (p .state) (first (unless (b .loaded) 10 Pass) (unless (cellAllowed (tariffIn p) r m && monthsAllowed (b .benchmarks .months) months) 13 Pass)))
@@ -82,3 +84,13 @@ quote-answer b from k r m months at index =
     ∙ quote-table (inside k) (p .state) (tariffIn p) (b .loaded) (sheetIn b) (λ s x. cellAllowed x r m && monthsAllowed (s .period .months) months) (λ s x. quotation (quotationIn s x r m months))
     ∙ ap (λ c. checked refused (heldCheck k (p .state) c) (quotation (quotationIn (sheetIn b) (tariffIn p) r m months)))
     (behind-10 (b .loaded) _ _ (λ l. ap (λ t. unless (cellAllowed (tariffIn p) r m && monthsAllowed t months) 13 Pass) (sym (months-are b from l))))
+
+-- the same for the place that a book has at the index of the code
+pub quote-there : {b : Book} {k i : ℕ} {p : Place} {loaded : Bool} {f : Benchmarks} → HasPlace b k i p loaded f → (r m : ℕ) (months : List ℕ)
+    → quoteOf b k r m months
+    ≡ checked refused (heldCheck k (p .state) (first (unless loaded 10 Pass) (unless (cellAllowed (tariffIn p) r m && monthsAllowed (f .months) months) 13 Pass)))
+    (quotation (quotationIn (sheetIn b) (tariffIn p) r m months))
+quote-there {b} {k} {i} h r m months =
+    quote-answer b (h .reachable) k r m months i (h .index)
+    ∙ (λ j. checked refused (heldCheck k (h .place j .state) (first (unless (h .is-loaded j) 10 Pass) (unless (cellAllowed (tariffIn (h .place j)) r m && monthsAllowed (h .has-figures j .months) months) 13 Pass)))
+    (quotation (quotationIn (sheetIn b) (tariffIn (h .place j)) r m months)))

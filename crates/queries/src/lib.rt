@@ -4,12 +4,17 @@
 // What the layer above may use: the answers, which are TRIAL's too, and `refused`.
 ghost use mathlib.Core.Path.{_≡_};
 ghost use mathlib.Core.Bool.{_&&_};
+ghost use Prim.Native.Nat.{ℕ};
 ghost use Rattle.refusal.specs.Checks.{unless};
 ghost use Rattle.refusal.specs.declared.Check.the-variants.{Pass};
+ghost use Rattle.book.specs.declared.Book.{Book};
 ghost use Rattle.book.specs.Book.{Reachable};
+ghost use Rattle.book.specs.Settling.{HasPlace};
 ghost use Rattle.queries.specs.Queries.{tellingOf, inRanges, cellAllowed, monthsAllowed, benchmarkOf, maximumOf, quoteOf};
 ghost use Rattle.queries.specs.Reading.{refusalTold};
+use benchmark::Benchmarks;
 use book::Book;
+use book::Place;
 use charge::Kwh;
 use refusal::Check;
 use tariff::Tariff;
@@ -140,18 +145,23 @@ fn quote_check(x: Tariff, region: u32, method: u32, t: u32, months: &[u32]) -> C
     Check::Refuse(13)
 }
 
-// QUOTE (code, region, method, months). 6, 9, 10, 13. 1,000 × 12 × m times the charge and times the maximum.
-pub fn quote(b: Book, code: u32, region: u32, method: u32, months: &[u32]) -> Told
-    requires { ⌜ Reachable b ⌝ }
-    ensures { λ r. ⌜ tellingOf r ≡ quoteOf b code region method (now (months .entry)) ⌝ }
+// QUOTE (code, region, method, months). 6, 9, 10, 13. 1,000 × 12 × m times the charge and times the maximum. `quote_at` is for who holds the
+// book: it takes the place of the code, whether a sheet is loaded and its figures, and copies no other place.
+pub fn quote_at(
+    code: u32,
+    p: Place,
+    loaded: bool,
+    figures: Benchmarks,
+    region: u32,
+    method: u32,
+    months: &[u32],
+) -> Told
+    requires { ⌜ ((b : Book) × (i : ℕ) × HasPlace b code i p loaded figures) ⌝ }
+    ensures { λ r. ⌜ ((b : Book) (i : ℕ) → HasPlace b code i p loaded figures → tellingOf r ≡ quoteOf b code region method (now (months .entry))) ⌝ }
 {
-    let at = book::index_of(code);
-    let places = b.places;
-    let p = places[at];
     let x = book::tariff_in(p);
-    let figures = b.benchmarks;
     let allowed = quote_check(x, region, method, figures.months, months);
-    let in_force = refusal::first(book::sheet_check(b.loaded), allowed);
+    let in_force = refusal::first(book::sheet_check(loaded), allowed);
     let checked = book::held_check(code, p, in_force);
     let Check::Pass = checked else {
         return refused(checked);
@@ -162,4 +172,15 @@ pub fn quote(b: Book, code: u32, region: u32, method: u32, months: &[u32]) -> To
         charge: sides.charged,
         maximum: sides.capped,
     }
+}
+
+pub fn quote(b: Book, code: u32, region: u32, method: u32, months: &[u32]) -> Told
+    requires { ⌜ Reachable b ⌝ }
+    ensures { λ r. ⌜ tellingOf r ≡ quoteOf b code region method (now (months .entry)) ⌝ }
+{
+    let at = book::index_of(code);
+    let places = b.places;
+    let p = places[at];
+    let figures = b.benchmarks;
+    quote_at(code, p, b.loaded, figures, region, method, months)
 }

@@ -26,6 +26,7 @@ unfolding scannedVerdict scannedBelow offered bit cellNumbers standingIn arrange
 computed =
     record {
       within = refl;
+      within-in-5 = refl;
       over-in-5 = refl;
       over-in-0 = refl;
       over-in-13 = refl;
@@ -43,6 +44,7 @@ regional =
       verdicts =
           record {
             within = on-known (withMore (inEvery 960)) _ refl (computed .within);
+            within-in-5 = on-known (withMore (inRegion 5 960)) _ refl (computed .within-in-5);
             over-in-5 = on-known (withMore (inRegion 5 961)) _ refl (computed .over-in-5);
             over-in-0 = on-known (withMore (inRegion 0 961)) _ refl (computed .over-in-0);
             over-in-13 = on-known (withMore (inRegion 13 961)) _ refl (computed .over-in-13);

@@ -22,6 +22,7 @@ inRegion0 fourteen = set (withMore fourteen) 3 1
 pub record RegionalVerdicts (judge : List ℕ → Verdict) : Type 0 where
   -- 960 in every region is within the cap; 961 in one region alone is over it there, in the fifth, in the first and in the last
   pub within : judge (withMore (inEvery 960)) ≡ opens 28
+  pub within-in-5 : judge (withMore (inRegion 5 960)) ≡ opens 28
   pub over-in-5 : judge (withMore (inRegion 5 961)) ≡ over (cell 5 1) (0 ∷ 0 ∷ 0 ∷ []) (tenfold 133200000)
   pub over-in-0 : judge (withMore (inRegion 0 961)) ≡ over (cell 0 1) (0 ∷ 0 ∷ 0 ∷ []) (tenfold 133200000)
   pub over-in-13 : judge (withMore (inRegion 13 961)) ≡ over (cell 13 1) (0 ∷ 0 ∷ 0 ∷ []) (tenfold 133200000)

@@ -442,12 +442,16 @@ fn quotes(n: u64) -> u64 {
     let mut i: u64 = 0;
     while i < n {
         x = next(x);
-        let at = drawn(x, 12) as usize;
+        let month = drawn(x, 12) as usize;
         let code = 1 + drawn(x, 32);
         let region = drawn(x, 14);
         x = next(x);
-        months[at] = drawn(x, 10_001);
-        let told = queries::quote(b, code, region, drawn(x, 2), &months);
+        months[month] = drawn(x, 10_001);
+        let at = book::index_of(code);
+        let p = b.places[at];
+        let figures = b.benchmarks;
+        let method = drawn(x, 2);
+        let told = queries::quote_at(code, p, b.loaded, figures, region, method, &months);
         sum = fold_told(sum, told);
         i += 1;
     }

@@ -2,3 +2,4 @@ pub mod Kept
 pub mod InForce
 pub mod Built
 pub mod Exactly
+pub mod Placed

@@ -25,7 +25,7 @@ use Rattle.request.specs.declared.CodeStep.the-variants.{Put, Open, Close, Drop
 use Rattle.request.specs.declared.Word.the-variants.{On}
 use Rattle.request.specs.Requests.{arity, RightCount}
 use Rattle.protocol.specs.Lines.{lineAt}
-use Rattle.protocol.specs.Promises.{HasPlace}
+use Rattle.book.specs.Settling.{HasPlace}
 use Rattle.lines.proofs.Parts.{length-between}
 use Rattle.input.specs.declared.Input.{Input}
 use Rattle.input.proofs.Between.{between-split, between-one, between-none}

@@ -6,6 +6,7 @@ use mathlib.Core.List.{List}
 use Prim.Native.Nat.{ℕ, _≤_}
 use native.Mathlib.Omega.{arith}
 use lib.Count.{ones, onesIn}
+use lib.ListN.{set}
 use Rattle.laws.proofs.Pieces.{scan}
 use Rattle.laws.specs.Notions.{every, sum, total, tabulate, tabulateFrom, bit}
 use Rattle.calendar.specs.Calendar.{periodDays, periodInRange, monthBegins, lengthAt, monthLength, leapYear}
@@ -23,7 +24,7 @@ use Rattle.cap.proofs.Scanned.{scannedMonths}
 use Rattle.verdict.specs.Cells.{offered, cellNumbers, cellCount, Verdict}
 use Rattle.verdict.proofs.Scanned.{scannedBelow, scannedVerdict}
 use Rattle.reference.proofs.Scanning.{formed, by-scan}
-use Rattle.unlike.specs.SheetU.{networks, sheetU, periodU, threeTiers, peakAt, threeRegisters, allInOne, loneField, lonePair}
+use Rattle.unlike.specs.SheetU.{networks, sheetU, periodU, threeTiers, peakAt, threeRegisters, allInOne, mostAdded, mostAddedSeven, flatWith, sevenWith, loneField, lonePair}
 use Rattle.unlike.specs.Unlike.{UnlikeVerdicts, Unlike, verdictOn}
 use Rattle.unlike.proofs.Figures.{chargesU, charges-of-u, days-of-u}
 
@@ -49,6 +50,12 @@ computed =
       registers-over = refl;
       registers-within = refl;
       all-in-one = refl;
+      most-added = refl;
+      more-in-4 = refl;
+      more-in-13 = refl;
+      neighbours-exchanged = refl;
+      seven-most-added = refl;
+      seven-more-in-6 = refl;
     }
 
 -- THE TABLE
@@ -72,6 +79,12 @@ unlike =
             registers-over = on-known (threeRegisters 15000) _ refl (computed .registers-over);
             registers-within = on-known (threeRegisters 14000) _ refl (computed .registers-within);
             all-in-one = on-known allInOne _ refl (computed .all-in-one);
+            most-added = on-known (flatWith mostAdded) _ refl (computed .most-added);
+            more-in-4 = on-known (flatWith (set mostAdded 4 10130)) _ refl (computed .more-in-4);
+            more-in-13 = on-known (flatWith (set mostAdded 13 9880)) _ refl (computed .more-in-13);
+            neighbours-exchanged = on-known (flatWith (set (set mostAdded 3 10129) 4 10157)) _ refl (computed .neighbours-exchanged);
+            seven-most-added = on-known (sevenWith mostAddedSeven) _ refl (computed .seven-most-added);
+            seven-more-in-6 = on-known (sevenWith (set mostAddedSeven 6 14288)) _ refl (computed .seven-more-in-6);
           };
       records = (refl, refl, refl, refl);
       each-pair = refl;

@@ -1,5 +1,5 @@
 -- Sheet U: no two regions, arrangements, methods or indices are alike on it, so that a figure taken from the wrong field shows. Its
--- period, the tariffs judged by it, with nothing added in any region, and small sheets on which one pair of benchmarks alone is out of order.
+-- period, the tariffs judged by it, and small sheets on which one pair of benchmarks alone is out of order.
 -- Assumes nothing.
 use mathlib.Core.Bool.{cond, _&&_}
 use mathlib.Core.List.{List, [], _∷_, _++_}
@@ -8,7 +8,7 @@ use lib.Dec.{leb, eqb}
 use Rattle.laws.specs.Notions.{tabulate}
 use Rattle.calendar.specs.declared.Period.{Period}
 use Rattle.sheet.specs.Sheet.{fieldCount}
-use Rattle.reference.specs.SheetS.{nothingAdded}
+use Rattle.reference.specs.SheetS.{nothingAdded, adding, flat, economySeven}
 
 -- NC of n regions from region r on: single-rate falls from region to region, Economy 7 rises
 unfoldable pub networks : ℕ → ℕ → List ℕ
@@ -50,6 +50,21 @@ threeRegisters rate = 3 ∷ 3 ∷ 18000 ∷ 8200 ∷ 3 ∷ rate ∷ 20000 ∷ 90
 -- two registers, of which the first has all the consumption, in regions 1 and 12 by Other
 abbrev pub allInOne : List ℕ
 allInOne = 3 ∷ 2 ∷ 20000 ∷ 4098 ∷ 2 ∷ 15000 ∷ 150000 ∷ 0 ∷ 0 ∷ 1000 ∷ 0 ∷ 0 ∷ 0 ∷ nothingAdded
+
+-- what each region may add at most to 20,000 a day: with one rate of 15,000, where it falls from region to region as NC does, and with Economy
+-- 7 at 15,000 and 14,000, where it rises
+abbrev pub mostAdded : List ℕ
+mostAdded = 10241 ∷ 10213 ∷ 10185 ∷ 10157 ∷ 10129 ∷ 10102 ∷ 10074 ∷ 10046 ∷ 10018 ∷ 9990 ∷ 9962 ∷ 9934 ∷ 9906 ∷ 9879 ∷ []
+
+abbrev pub mostAddedSeven : List ℕ
+mostAddedSeven = 13953 ∷ 14008 ∷ 14064 ∷ 14120 ∷ 14176 ∷ 14231 ∷ 14287 ∷ 14343 ∷ 14399 ∷ 14455 ∷ 14510 ∷ 14566 ∷ 14622 ∷ 14678 ∷ []
+
+-- everywhere, with so much added
+abbrev pub flatWith : List ℕ → List ℕ
+flatWith fourteen = adding fourteen (flat 20000 15000)
+
+abbrev pub sevenWith : List ℕ → List ℕ
+sevenWith fourteen = adding fourteen (economySeven 20000 15000 14000)
 
 -- A sheet on which the benchmark at m is below that at nil in one region, arrangement and method alone. All indices, both m and the peak
 -- share are 1; OC0 is 1 at m of the arrangement, NC of the region is 2 at nil and 1 at m, and PAP of the method is a quarter:

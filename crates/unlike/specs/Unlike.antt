@@ -6,6 +6,7 @@ use mathlib.Core.List.{List, [], _∷_}
 use Prim.Native.Nat.{ℕ}
 use lib.Dec.{eqb}
 use lib.IntN.{pos}
+use lib.ListN.{set}
 use Rattle.laws.specs.Notions.{every}
 use Rattle.refusal.specs.declared.Check.{Check}
 use Rattle.refusal.specs.declared.Check.the-variants.{Pass, Refuse}
@@ -16,7 +17,7 @@ use Rattle.benchmark.specs.Common.{commons}
 use Rattle.tariff.specs.Tariff.{tariffOf, recordCheck}
 use Rattle.verdict.specs.Cells.{cell, Verdict, opens, over, verdict}
 use Rattle.reference.specs.Starred.{eightAre}
-use Rattle.unlike.specs.SheetU.{sheetU, periodU, threeTiers, peakAt, threeRegisters, allInOne, lonePair}
+use Rattle.unlike.specs.SheetU.{sheetU, periodU, threeTiers, peakAt, threeRegisters, allInOne, mostAdded, mostAddedSeven, flatWith, sevenWith, lonePair}
 
 -- the verdict on a record
 abbrev pub verdictOn : List ℕ → Verdict
@@ -39,6 +40,14 @@ pub record UnlikeVerdicts (judge : List ℕ → Verdict) : Type 0 where
   pub registers-within : judge (threeRegisters 14000) ≡ opens 4
   -- a register without consumption costs nothing
   pub all-in-one : judge allInOne ≡ opens 2
+  -- each region adds the most that it may; one mill more in region 4, in the last, and the numbers of regions 3 and 4 exchanged
+  pub most-added : judge (flatWith mostAdded) ≡ opens 28
+  pub more-in-4 : judge (flatWith (set mostAdded 4 10130)) ≡ over (cell 4 1) (0 ∷ 0 ∷ []) (pos 12400000)
+  pub more-in-13 : judge (flatWith (set mostAdded 13 9880)) ≡ over (cell 13 1) (0 ∷ 0 ∷ []) (pos 2077000000)
+  pub neighbours-exchanged : judge (flatWith (set (set mostAdded 3 10129) 4 10157)) ≡ over (cell 4 1) (0 ∷ 0 ∷ []) (pos 60276400000)
+  -- and of Economy 7, which is held to the other arrangement
+  pub seven-most-added : judge (sevenWith mostAddedSeven) ≡ opens 28
+  pub seven-more-in-6 : judge (sevenWith (set mostAddedSeven 6 14288)) ≡ over (cell 6 1) (0 ∷ 0 ∷ []) (pos 739200000)
 
 pub record Unlike : Type 0 where
   pub accepted : setCheck sheetU periodU ≡ Pass

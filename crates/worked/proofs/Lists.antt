@@ -27,8 +27,9 @@ use Rattle.reference.specs.SheetS.{sheetS, times}
 use Rattle.reference.specs.Splits.{dayDear}
 use Rattle.reference.proofs.Table.{starred}
 use Rattle.reference.proofs.Splits.{splits}
-use Rattle.worked.proofs.October.{october-accepted, october-low, october-close, close-record, high-record}
-use Rattle.worked.specs.Worked.{quarter, october, splitAt, noFields, low, close, steep, bookOf, Worked}
+use Rattle.reference.proofs.Regional.{regional}
+use Rattle.worked.proofs.October.{october-accepted, october-low, october-close, october-dear, close-record, high-record}
+use Rattle.worked.specs.Worked.{quarter, october, splitAt, noFields, low, close, steep, dearIn5, bookOf, Worked}
 
 -- the answers to a list, one after the other
 data Told : List Act → List Act → List Answer → Type 0 where
@@ -96,14 +97,31 @@ pub low-opens-too : verdictAnswer (verdict (figuresOf (splitAt 579)) (tariffOf l
 low-opens-too = ap verdictAnswer (splits .verdicts .flat-within)
 
 -- the book after two calls, and its QUOTE
-two-calls : bookOf (SET quarter ∷ PUT 7 steep ∷ []) ≡ changed (changed fresh (SET quarter)) (PUT 7 steep)
+two-calls : (x : Record) → recordCheck x ≡ Pass → bookOf (SET quarter ∷ PUT 7 x ∷ []) ≡ changed (changed fresh (SET quarter)) (PUT 7 x)
 unfolding bookAfter step
-two-calls = rw (starred .accepted, starred .records .1)
+two-calls x e = rw (starred .accepted, e)
 
 quote-told : quoteOf (changed (changed fresh (SET quarter)) (PUT 7 steep)) 7 0 1 (300 ∷ 0 ∷ 0 ∷ [])
     ≡ quotation (record { charge = 246240000000000; maximum = 279704700000000 })
 unfolding quoteOf cellAllowed monthsAllowed every offered bit cellNumbers standingIn arrangement tierCharge charge maximum charged capped sum total benchmarksOf figures figure tabulate tabulateFrom benchmark wc pc oc nc paenc headroom panc valueOf signed indexed round roundSigned sheetS times periodDays monthBegins lengthAt monthLength leapYear
 quote-told = refl
+
+told-in-4 : quoteOf (changed (changed fresh (SET quarter)) (PUT 7 dearIn5)) 7 4 1 (100 ∷ 200 ∷ 300 ∷ [])
+    ≡ quotation (record { charge = 464976000000000; maximum = 480051900000000 })
+unfolding quoteOf cellAllowed monthsAllowed every offered bit cellNumbers standingIn arrangement tierCharge charge maximum charged capped sum total benchmarksOf figures figure tabulate tabulateFrom benchmark wc pc oc nc paenc headroom panc valueOf signed indexed round roundSigned sheetS times periodDays monthBegins lengthAt monthLength leapYear
+told-in-4 = refl
+
+told-in-5 : quoteOf (changed (changed fresh (SET quarter)) (PUT 7 dearIn5)) 7 5 1 (100 ∷ 200 ∷ 300 ∷ [])
+    ≡ quotation (record { charge = 468155520000000; maximum = 480051900000000 })
+unfolding quoteOf cellAllowed monthsAllowed every offered bit cellNumbers standingIn arrangement tierCharge charge maximum charged capped sum total benchmarksOf figures figure tabulate tabulateFrom benchmark wc pc oc nc paenc headroom panc valueOf signed indexed round roundSigned sheetS times periodDays monthBegins lengthAt monthLength leapYear
+told-in-5 = refl
+
+-- a tariff with a standing charge of its own in region 5
+pub dear-put : checked refused (recordCheck dearIn5) accepted ≡ accepted
+dear-put = passed (regional .records .2)
+
+pub dear-opens : verdictAnswer (verdict (figuresOf quarter) (tariffOf dearIn5)) ≡ opened 28
+dear-opens = ap verdictAnswer (regional .verdicts .within-in-5)
 
 -- THE LISTS
 pub worked : Worked
@@ -127,6 +145,16 @@ worked =
           (then quarter-set
           (then (closed-if quarter dayDear _ (starred .verdicts .economy-over))
           (then (closed-if quarter low _ (starred .verdicts .within)) (then (opened-if quarter dayDear _ (starred .verdicts .economy-over)) ended)))))))));
+      region-falls =
+          told
+          (then quarter-set
+          (then dear-put
+          (then low-put
+          (then dear-opens
+          (then low-opens
+          (then (passed october-accepted)
+          (then (closed-if october dearIn5 _ october-dear)
+          (then (closed-if october low _ october-low) (then (opened-if october dearIn5 _ october-dear) ended)))))))));
       again = told (then quarter-set (then low-put (then low-opens (then refl (then low-opens ended)))));
       refused-between = told (then quarter-set (then low-put (then low-opens (then no-fields-set (then refl ended)))));
       codes = told (then refl (then refl (then refl (then refl ended))));
@@ -135,7 +163,9 @@ worked =
           told
           (then (passed high-record)
           (then refl (then refl (then quarter-set (then (ap verdictAnswer (starred .verdicts .just-over)) (then low-put (then low-opens ended)))))));
-      quoted = ap (λ b. quoteOf b 7 0 1 (300 ∷ 0 ∷ 0 ∷ [])) two-calls ∙ quote-told;
+      quoted = ap (λ b. quoteOf b 7 0 1 (300 ∷ 0 ∷ 0 ∷ [])) (two-calls steep (starred .records .1)) ∙ quote-told;
+      quoted-in-4 = ap (λ b. quoteOf b 7 4 1 (100 ∷ 200 ∷ 300 ∷ [])) (two-calls dearIn5 (regional .records .2)) ∙ told-in-4;
+      quoted-in-5 = ap (λ b. quoteOf b 7 5 1 (100 ∷ 200 ∷ 300 ∷ [])) (two-calls dearIn5 (regional .records .2)) ∙ told-in-5;
       tiers =
           told
           (then quarter-set

@@ -19,12 +19,13 @@ use Rattle.charge.specs.Tiers.{tiersOf}
 use Rattle.cap.specs.Cap.{maximum, charged, capped, excess}
 use Rattle.cap.specs.Corners.{cornersTo}
 use Rattle.cap.proofs.Scanned.{scannedMonths}
-use Rattle.verdict.specs.Cells.{offered, cellNumbers, cellCount, Verdict, opens, over, verdict}
+use Rattle.verdict.specs.Cells.{cell, offered, cellNumbers, cellCount, Verdict, opens, over, verdict}
 use Rattle.verdict.proofs.Scanned.{scannedBelow, scannedVerdict}
 use Rattle.reference.proofs.Scanning.{formed, by-scan}
 use Rattle.reference.proofs.Figures.{chargesS, charges-at-580, split-of-s}
-use Rattle.reference.specs.SheetS.{times, sheetS, flat}
+use Rattle.reference.specs.SheetS.{times, sheetS, inRegion, flat}
 use Rattle.reference.specs.Starred.{firstOther}
+use Rattle.reference.specs.Regional.{withMore}
 use Rattle.refusal.specs.declared.Check.the-variants.{Pass}
 use Rattle.calendar.specs.declared.Period.{Period}
 
@@ -53,6 +54,14 @@ low-computed = refl
 close-computed : scannedVerdict known (tariffOf (flat 23960 18000)) ≡ over firstOther (0 ∷ []) (pos 286860000000)
 unfolding scannedVerdict scannedBelow offered bit cellNumbers standingIn arrangement scannedMonths cornersTo tiersOf scan tierCharge weighted monthCharge charge maximum charged capped excess sum total cellCount ones onesIn sheetS times
 close-computed = refl
+
+dear-computed : scannedVerdict known (tariffOf (withMore (inRegion 5 960))) ≡ over (cell 5 1) (0 ∷ []) (pos 286860000000)
+unfolding scannedVerdict scannedBelow offered bit cellNumbers standingIn arrangement scannedMonths cornersTo tiersOf scan tierCharge weighted monthCharge charge maximum charged capped excess sum total cellCount ones onesIn sheetS times
+dear-computed = refl
+
+pub october-dear : verdict (benchmarksOf sheetS octoberPeriod) (tariffOf (withMore (inRegion 5 960))) ≡ over (cell 5 1) (0 ∷ []) (pos 286860000000)
+unfolding validTariff regionFits standingIn bit validKind singleRegister economy7 multiRegister ratesWithin zeroFrom within rising every
+october-dear = on-known (withMore (inRegion 5 960)) _ refl dear-computed
 
 pub october-low : verdict (benchmarksOf sheetS octoberPeriod) (tariffOf (flat 23000 18000)) ≡ opens 28
 unfolding validTariff regionFits standingIn bit validKind singleRegister economy7 multiRegister ratesWithin zeroFrom within rising every

@@ -26,5 +26,6 @@ refusals =
       set-between = refl;
       put-steps = refl;
       put-shares = refl;
+      put-regions = refl;
       empty-place = refl;
     }

@@ -28,11 +28,11 @@ use Rattle.reference.specs.SheetS.{sheetS, times}
 use Rattle.reference.specs.Splits.{dayDear}
 use Rattle.reference.proofs.Table.{starred}
 use Rattle.unlike.specs.SheetU.{loneField, lonePair}
-use Rattle.worked.proofs.October.{october-accepted, october-low, october-close, close-record}
-use Rattle.worked.proofs.Lists.{isOpening, complying, passed, quarter-set, low-put, low-opens, other-set, seven-put, seven-opens, low-opens-too}
-use Rattle.worked.specs.Worked.{quarter, october, splitAt, noFields, low, close}
+use Rattle.worked.proofs.October.{october-accepted, october-low, october-close, october-dear, close-record}
+use Rattle.worked.proofs.Lists.{isOpening, complying, passed, quarter-set, low-put, low-opens, other-set, seven-put, seven-opens, low-opens-too, dear-put, dear-opens}
+use Rattle.worked.specs.Worked.{quarter, october, splitAt, noFields, low, close, dearIn5}
 use Rattle.worked.specs.Refusals.{withField, forPeriod, bothWrong, unordered, saving, termAndOc, ocAndOrder}
-use Rattle.worked.specs.Tried.{twoOpen, threeOpen, oneClosed, otherSplit, Tried}
+use Rattle.worked.specs.Tried.{twoOpen, threeOpen, oneClosed, otherSplit, dearOpen, Tried}
 
 -- a list of accepted calls, and the book that it leaves
 data Makes : Book → List Act → Book → Type 0 where
@@ -68,6 +68,12 @@ other-left =
     makes
     (then accepted other-set refl
     (then accepted seven-put refl (then accepted low-put refl (then (opened 28) seven-opens refl (then (opened 28) low-opens-too refl ended)))))
+
+dear-left : dearOpen ≡ changed (changed (changed (changed (changed fresh (SET quarter)) (PUT 1 dearIn5)) (PUT 2 low)) (OPEN 1)) (OPEN 2)
+dear-left =
+    makes
+    (then accepted quarter-set refl
+    (then accepted dear-put refl (then accepted low-put refl (then (opened 28) dear-opens refl (then (opened 28) low-opens refl ended)))))
 
 closed-left : oneClosed ≡ changed twoOpened (CLOSE 1)
 closed-left = makes (five-then (then accepted refl refl ended))
@@ -113,6 +119,9 @@ tried =
       split-falls =
           told-by otherSplit quarter (starred .accepted) _ _ _ _ _ _ 1 (ap (λ b. b .places) other-left)
           (judged quarter (tariffOf dayDear) _ (starred .verdicts .economy-over)) (judged quarter (tariffOf low) _ (starred .verdicts .within)) refl refl;
+      region-falls =
+          told-by dearOpen october october-accepted _ _ _ _ _ _ 1 (ap (λ b. b .places) dear-left)
+          (judged october (tariffOf dearIn5) _ october-dear) (judged october (tariffOf low) _ october-low) refl refl;
       draft-stays =
           told-by oneClosed october october-accepted _ _ _ _ _ _ 0 (ap (λ b. b .places) closed-left)
           refl (judged october (tariffOf low) _ october-low) refl refl;

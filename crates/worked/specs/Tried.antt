@@ -8,7 +8,7 @@ use Rattle.book.specs.Book.{fresh}
 use Rattle.queries.specs.Queries.{refused, falling}
 use Rattle.trial.specs.Trial.{trialOf}
 use Rattle.reference.specs.Splits.{dayDear}
-use Rattle.worked.specs.Worked.{quarter, october, splitAt, noFields, low, close, bookOf}
+use Rattle.worked.specs.Worked.{quarter, october, splitAt, noFields, low, close, dearIn5, bookOf}
 use Rattle.worked.specs.Refusals.{withField, forPeriod, bothWrong, unordered, saving, termAndOc, ocAndOrder}
 
 -- the sheet of the quarter, with two open tariffs; a third one in place 32; and the first closed again
@@ -28,12 +28,18 @@ oneClosed = bookOf (openingTwo ++ (CLOSE 1 ∷ []))
 abbrev pub otherSplit : Book
 otherSplit = bookOf (SET (splitAt 579) ∷ PUT 1 dayDear ∷ PUT 2 low ∷ OPEN 1 ∷ OPEN 2 ∷ [])
 
+-- the sheet of the quarter, with an open tariff that adds 960 in region 5, and another
+abbrev pub dearOpen : Book
+dearOpen = bookOf (SET quarter ∷ PUT 1 dearIn5 ∷ PUT 2 low ∷ OPEN 1 ∷ OPEN 2 ∷ [])
+
 pub record Tried : Type 0 where
   -- October's sheet would send the first of the two back to draft: bit 0; and in place 32 as well: bits 0 and 31
   pub one-falls : trialOf twoOpen october ≡ falling 1
   pub last-place : trialOf threeOpen october ≡ falling 2147483649
   -- a split of 580 would send the Economy 7 tariff back
   pub split-falls : trialOf otherSplit quarter ≡ falling 1
+  -- October's sheet would send back the tariff that adds 960 in region 5, and not the same one without it
+  pub region-falls : trialOf dearOpen october ≡ falling 1
   -- a draft does not fall; nothing falls under the sheet in force; and a trial needs no sheet in force
   pub draft-stays : trialOf oneClosed october ≡ falling 0
   pub same-sheet : trialOf twoOpen quarter ≡ falling 0

@@ -4,13 +4,15 @@ use mathlib.Core.Path.{_≡_}
 use mathlib.Core.List.{List, [], _∷_, map}
 use lib.IntN.{pos}
 use Prim.Native.Nat.{ℕ}
+use Rattle.verdict.specs.Cells.{cell}
 use Rattle.book.specs.declared.Book.{Book}
 use Rattle.book.specs.Calls.{Sheet, Record, Act, SET, PUT, OPEN, CLOSE, DROP, call, Answer, accepted, opened, refused, over}
 use Rattle.book.specs.Book.{fresh, bookAfter}
 use Rattle.queries.specs.Queries.{quotation, quoteOf}
-use Rattle.reference.specs.SheetS.{sheetS, withSplit, periodS, flat, tiered}
+use Rattle.reference.specs.SheetS.{sheetS, withSplit, periodS, inRegion, flat, tiered}
 use Rattle.reference.specs.Starred.{firstOther}
 use Rattle.reference.specs.Splits.{dayDear}
+use Rattle.reference.specs.Regional.{withMore}
 use Rattle.history.specs.History.{answersAfter}
 
 -- sheet S for October to December 2023, and for October alone
@@ -42,6 +44,10 @@ high = flat 23961 18000
 abbrev pub steep : Record
 steep = tiered 20000 20000 100 15000
 
+-- the first of them with 960 a day more in region 5
+abbrev pub dearIn5 : Record
+dearIn5 = withMore (inRegion 5 960)
+
 -- the answers to such a list, and the book that it leaves
 abbrev pub answersTo : List Act → List Answer
 answersTo acts = answersAfter [] (map call acts)
@@ -56,6 +62,9 @@ pub record Worked : Type 0 where
   -- a sheet that differs from the one in force in field 95 alone: an Economy 7 tariff falls, and is over the cap by a tenth of a percent
   pub split-falls : answersTo (SET (splitAt 579) ∷ PUT 1 dayDear ∷ PUT 2 low ∷ OPEN 1 ∷ OPEN 2 ∷ SET quarter ∷ CLOSE 1 ∷ CLOSE 2 ∷ OPEN 1 ∷ [])
       ≡ accepted ∷ accepted ∷ accepted ∷ opened 28 ∷ opened 28 ∷ accepted ∷ refused 12 ∷ accepted ∷ over firstOther (10000 ∷ 10000 ∷ 10000 ∷ []) (pos 3678000000000) ∷ []
+  -- October's sheet sends back a tariff for what it adds in region 5 alone, and not the same one without it
+  pub region-falls : answersTo (SET quarter ∷ PUT 1 dearIn5 ∷ PUT 2 low ∷ OPEN 1 ∷ OPEN 2 ∷ SET october ∷ CLOSE 1 ∷ CLOSE 2 ∷ OPEN 1 ∷ [])
+      ≡ accepted ∷ accepted ∷ accepted ∷ opened 28 ∷ opened 28 ∷ accepted ∷ refused 12 ∷ accepted ∷ over (cell 5 1) (0 ∷ []) (pos 286860000000) ∷ []
   -- open, close, open
   pub again : answersTo (SET quarter ∷ PUT 1 low ∷ OPEN 1 ∷ CLOSE 1 ∷ OPEN 1 ∷ []) ≡ accepted ∷ accepted ∷ opened 28 ∷ accepted ∷ opened 28 ∷ []
   -- a refused SET in between changes nothing
@@ -72,6 +81,11 @@ pub record Worked : Type 0 where
   -- QUOTE of the tiered tariff for 300 kWh in one month: its charge is below the maximum
   pub quoted : quoteOf (bookOf (SET quarter ∷ PUT 7 steep ∷ [])) 7 0 1 (300 ∷ 0 ∷ 0 ∷ [])
       ≡ quotation (record { charge = 246240000000000; maximum = 279704700000000 })
+  -- QUOTE of one tariff in two regions, in one of which it has a standing charge of its own
+  pub quoted-in-4 : quoteOf (bookOf (SET quarter ∷ PUT 7 dearIn5 ∷ [])) 7 4 1 (100 ∷ 200 ∷ 300 ∷ [])
+      ≡ quotation (record { charge = 464976000000000; maximum = 480051900000000 })
+  pub quoted-in-5 : quoteOf (bookOf (SET quarter ∷ PUT 7 dearIn5 ∷ [])) 7 5 1 (100 ∷ 200 ∷ 300 ∷ [])
+      ≡ quotation (record { charge = 468155520000000; maximum = 480051900000000 })
   -- the tiered tariff, refused at 100, 100, 100; then dropped, and the place is empty
   pub tiers : answersTo (SET quarter ∷ PUT 7 steep ∷ OPEN 7 ∷ DROP 7 ∷ OPEN 7 ∷ [])
       ≡ accepted ∷ accepted ∷ over firstOther (100 ∷ 100 ∷ 100 ∷ []) (pos 2535300000000) ∷ accepted ∷ refused 9 ∷ []

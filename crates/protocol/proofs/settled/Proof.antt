@@ -7,7 +7,7 @@ use lib.ListN.{length}
 use borrow.Author.Needs.{needs}
 use Rattle.lines.proofs.Parts.{rest}
 use Rattle.codes.specs.declared.CodeAct.the-variants.{Open, Close, Drop}
-use Rattle.protocol.proofs.Places.{may-judge, acts, puts-there}
+use Rattle.codes.proofs.Places.{may-judge, acts, puts-there}
 use Rattle.protocol.proofs.settled.Statement.{statement}
 use Rattle.protocol.proofs.settled.Tie as tie
 

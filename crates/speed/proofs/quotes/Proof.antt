@@ -1,9 +1,10 @@
--- `speed::quotes` is safe and ends.
+-- `speed::quotes` is safe and ends: each QUOTE is handed the place of its code.
 -- Assumes nothing.
 use mathlib.Core.Path.{_≡_}
 use Prim.Native.Nat.{_-_, _≤_}
 use lib.ListN.{length}
 use borrow.Author.Needs.{needs}
+use Rattle.speed.proofs.Held.{there}
 use Rattle.speed.proofs.quotes.Statement.{statement}
 use Rattle.speed.proofs.quotes.Tie as tie
 
@@ -25,8 +26,8 @@ next-requires c κs = search needs
 drawn-requires : tie.Need-drawn-requires Inv-loop μ-loop
 drawn-requires c κs = search needs
 
-cast-at : tie.Need-cast-at Inv-loop μ-loop
-cast-at c = search needs
+cast-month : tie.Need-cast-month Inv-loop μ-loop
+cast-month c = search needs
 
 drawn-requires-2 : tie.Need-drawn-requires-2 Inv-loop μ-loop
 drawn-requires-2 c κs = search needs
@@ -49,14 +50,26 @@ mul-months c = search needs
 array-write-months : tie.Need-array-write-months Inv-loop μ-loop
 array-write-months c = search needs
 
+index-of-requires : tie.Need-index-of-requires Inv-loop μ-loop
+index-of-requires c κs = search needs
+
+mul-p : tie.Need-mul-p Inv-loop μ-loop
+mul-p c = search needs
+
+element-copy-out-p : tie.Need-element-copy-out-p Inv-loop μ-loop
+element-copy-out-p c = search needs
+
 drawn-requires-5 : tie.Need-drawn-requires-5 Inv-loop μ-loop
 drawn-requires-5 c κs = search needs
 
-slice-aggregate-quote : tie.Need-slice-aggregate-quote Inv-loop μ-loop
-slice-aggregate-quote c = search needs
+slice-aggregate-quote-at : tie.Need-slice-aggregate-quote-at Inv-loop μ-loop
+slice-aggregate-quote-at c = search needs
 
-quote-requires : tie.Need-quote-requires Inv-loop μ-loop
-quote-requires c κs = search needs
+quote-at-requires : tie.Need-quote-at-requires Inv-loop μ-loop
+quote-at-requires c κs =
+    let i = c .before .before .before .before in
+    let b = i .before .before .before .before .before .before .before .before .before in
+    (_, _, there (b .with-open .ensures) _ _ (i .index-of .ensures))
 
 fold-told-requires : tie.Need-fold-told-requires Inv-loop μ-loop
 fold-told-requires c κs = search needs
@@ -83,7 +96,7 @@ quotes-spec =
     loop-holds
     next-requires
     drawn-requires
-    cast-at
+    cast-month
     drawn-requires-2
     add-code
     drawn-requires-3
@@ -91,9 +104,12 @@ quotes-spec =
     drawn-requires-4
     mul-months
     array-write-months
+    index-of-requires
+    mul-p
+    element-copy-out-p
     drawn-requires-5
-    slice-aggregate-quote
-    quote-requires
+    slice-aggregate-quote-at
+    quote-at-requires
     fold-told-requires
     add-i
     loop-less

@@ -20,7 +20,8 @@ use Rattle.request.specs.declared.Word.{Word}
 use Rattle.request.specs.declared.Word.the-variants as word
 use Rattle.protocol.specs.declared.Said.the-variants as said
 use Rattle.protocol.specs.Lines.{Response, lineAt}
-use Rattle.protocol.specs.Promises.{Answered, ToDo, HasPlace}
+use Rattle.book.specs.Settling.{HasPlace}
+use Rattle.protocol.specs.Promises.{Answered, ToDo}
 use Rattle.taking.specs.Taking.{hasRoom}
 use Rattle.taking.proofs.Taking.{feed-left, room-yes, some-number, has-place, Sofar, sofar-none, sofar-more}
 use Rattle.taking.proofs.take_lines.Statement.{statement}

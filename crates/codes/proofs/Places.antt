@@ -11,12 +11,11 @@ use Rattle.book.specs.declared.Book.{Book}
 use Rattle.book.specs.Calls.{Record, PUT, call, accepted}
 use Rattle.book.specs.Book.{placeWith}
 use Rattle.book.specs.Promises.{Does}
-use Rattle.book.specs.Settling.{settledIn, Settles}
+use Rattle.book.specs.Settling.{settledIn, Settles, HasPlace}
 use Rattle.codes.specs.declared.CodeAct.{CodeAct}
 use Rattle.codes.specs.Codes.{actOn, SettlesOn, Judgeable, putChecks}
 use Rattle.codes.proofs.Answers.{act-does, put-does, judgeable}
 use Rattle.codes.proofs.Handed.{handed}
-use Rattle.protocol.specs.Promises.{HasPlace}
 
 module _ {b : Book} {k i : ℕ} {p : Place} {loaded : Bool} {figures : Benchmarks} (h : HasPlace b k i p loaded figures) where
   pub may-judge : (a : CodeAct) → Judgeable a p loaded figures

@@ -1,7 +1,7 @@
 -- The standing charge of a cell changes no month of greatest excess: the corners of a tariff and its worst months are the same in every region
 -- that allows as much for a kWh, whatever the tariff charges a day there; and each mill a day adds its days to the excess.
 -- Assumes nothing.
-use mathlib.Core.Path.{_≡_, refl, ap}
+use mathlib.Core.Path.{_≡_, refl}
 use mathlib.Core.List.{List}
 use Prim.Native.Nat.{ℕ, _+_, _*_}
 use native.Mathlib.Omega.{arith}

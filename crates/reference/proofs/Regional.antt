@@ -1,8 +1,6 @@
 -- The table of standing charges by region holds: the verdicts by the scan of the corners.
 -- Assumes nothing.
 use mathlib.Core.Path.{refl}
-use mathlib.Core.List.{List}
-use Prim.Native.Nat.{ℕ}
 use lib.Count.{ones, onesIn}
 use lib.ListN.{set}
 use Rattle.laws.proofs.Pieces.{scan}

@@ -8,7 +8,7 @@ use lib.ListN.{set, take}
 use Rattle.refusal.specs.declared.Check.the-variants.{Pass, Refuse}
 use Rattle.tariff.specs.Tariff.{recordCheck}
 use Rattle.verdict.specs.Cells.{cell, Verdict, opens, over}
-use Rattle.reference.specs.SheetS.{nothingAdded, inEvery, inRegion, adding, offeredEverywhere, flat, tiered, economySeven, noSteps}
+use Rattle.reference.specs.SheetS.{inEvery, inRegion, adding, flat, tiered}
 use Rattle.reference.specs.Starred.{verdictOn, tenfold}
 
 -- one rate of 18,000 and 23,000 a day, with so much more in the regions

@@ -1,7 +1,7 @@
 -- Standing charges by region (document 02, M-104): what a region adds counts in its own cells alone; a tariff with 0 in all fourteen has the
 -- charge that document 01 gives, in every region; and the months of greatest excess depend on no standing charge.
 -- Assumes nothing.
-use mathlib.Core.Path.{_≡_, sym, _∙_, ap, subst}
+use mathlib.Core.Path.{_≡_, ap, subst}
 use mathlib.Core.List.{List}
 use Prim.Native.Nat.{ℕ, _+_, _*_}
 use native.Mathlib.Omega.{arith}
@@ -10,7 +10,6 @@ use Rattle.benchmark.specs.declared.Benchmarks.{Benchmarks}
 use Rattle.tariff.specs.declared.Tariff.{Tariff}
 use Rattle.tariff.specs.Tariff.{standingIn}
 use Rattle.charge.specs.Charge.{arrangement, charge}
-use Rattle.cap.specs.declared.CellNumbers.{CellNumbers}
 use Rattle.cap.specs.Cap.{charged, capped, excess, Exceeds, worstMonths}
 use Rattle.cap.proofs.Standing.{worst-without-standing}
 use Rattle.verdict.specs.Cells.{Cell, cellNumbers, tariffNumbers, ExceedsIn}

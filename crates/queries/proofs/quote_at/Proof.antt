@@ -4,7 +4,7 @@ use mathlib.Core.Path.{_≡_, sym, _∙_, ap, ap₂}
 use mathlib.Core.Bool.{Bool, true, _&&_}
 use mathlib.Core.List.{List}
 use Prim.Native.Nat.{ℕ}
-use lib.ListN.{getD}
+use native.Mathlib.Omega.{arith}
 use denote.Ref.{now}
 use Rattle.refusal.specs.declared.Check.the-variants.{Pass}
 use Rattle.refusal.specs.Checks.{unless, first}
@@ -108,7 +108,7 @@ numbers-of-requires c κs =
     let st = start h in
     let x = h .before .before .before .before .tariff-in .ensures in
     let w = cell-within _ _ _ (and-left (cellAllowed (tariff h) (st .args .region) (st .args .method)) _ (passed c .allows)) in
-    (place-lawful (st .pre .2) (passed c .loaded), ap validTariff x ∙ passed c .valid, w .0, w .1)
+    (place-lawful (st .pre .2) (passed c .loaded), ap validTariff x ∙ passed c .valid, omega (arith, w .0), w .1)
 
 sides-of-requires : tie.Need-sides-of-requires
 sides-of-requires c κs =

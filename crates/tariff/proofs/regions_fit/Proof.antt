@@ -1,7 +1,7 @@
 -- `tariff::regions_fit` meets its contract. The loop's invariant: each region before the one at hand has a number that fits.
 -- Assumes nothing.
 use mathlib.Core.Path.{_≡_, refl, sym, _∙_, ap}
-use mathlib.Core.Bool.{true, false, _&&_, _||_}
+use mathlib.Core.Bool.{true, _&&_, _||_}
 use Prim.Native.Nat.{_+_, _-_, _≤_}
 use native.Mathlib.Omega.{arith}
 use lib.Dec.{leb, eqb}
@@ -53,7 +53,7 @@ region-fits-requires c κs = search needs
 returns : tie.Need-returns Inv-loop μ-loop
 returns c =
     let r = c .before in
-    stops _ 14 (r .before .before .before .loop .region) (r .before .before .loop-test .taken) (fits r ∙ not-true _ (c .if1 .taken))
+    stops _ 14 (r .before .before .before .loop .region) (omega (arith, r .before .before .loop-test .taken)) (fits r ∙ not-true _ (c .if1 .taken))
 
 add-region : tie.Need-add-region Inv-loop μ-loop
 add-region c = search needs
@@ -69,7 +69,7 @@ loop-again c =
 returns-2 : tie.Need-returns-2 Inv-loop μ-loop
 returns-2 c =
     let l = c .before .loop in
-    ends _ 14 (l .region) (l .inv .0) (c .loop-test .left) (l .inv .1)
+    ends _ 14 (l .region) (l .inv .0) (omega (arith, c .loop-test .left)) (l .inv .1)
 
 pub regions-fit-spec : {M : Type 1} → statement M
 regions-fit-spec =

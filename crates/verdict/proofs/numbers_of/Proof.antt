@@ -2,6 +2,8 @@
 -- Assumes nothing.
 use mathlib.Core.Path.{_∙_, ap₂}
 use Prim.Native.Nat.{ℕ}
+use native.Mathlib.Omega.{arith}
+use Rattle.tariff.specs.Tariff.{standingIn}
 use Rattle.verdict.specs.Cells.{cell, cellNumbers}
 use borrow.Author.Needs.{needs}
 use Rattle.verdict.proofs.numbers_of.Statement.{statement}
@@ -14,9 +16,10 @@ standing-in-requires : tie.Need-standing-in-requires
 standing-in-requires c κs = search needs
 
 numbers-in-requires : tie.Need-numbers-in-requires
+unfolding standingIn
 numbers-in-requires c κs =
     let st = c .before .before in
-    (st .pre .0, c .before .arrangement-of .ensures .1, c .standing-in .ensures .1, st .pre .2, st .pre .3)
+    (st .pre .0, omega (arith, c .before .arrangement-of .ensures .1), omega (arith, c .standing-in .ensures .0, c .standing-in .ensures .1), st .pre .2, st .pre .3)
 
 returns : tie.Need-returns
 returns c =

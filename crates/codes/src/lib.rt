@@ -1,17 +1,20 @@
 // The calls on a code: PUT, OPEN, CLOSE and DROP.
 // Promise: each answers and leaves what `step` of the book's definitions says, on refused input too; 11 carries the first cell that
 // exceeds, t months and their excess. `act_on` is the one body of the calls that take a code alone: they differ in what they do to one
-// place. OPEN requires document 01's own sentence on the book, `Reachable`; the others require nothing. A layer that holds a book in a
-// local of its own may settle a place (`settle`, `put_at`) and store it, which copies no book: `act-does` and `put-does` of
-// proofs/Answers.antt say that it has then made the call.
+// place. OPEN requires document 01's own sentence on the book, `Reachable`; the others require nothing. Who holds a book in a local of
+// their own may settle a place (`settle`, `put_at`) and store it, which copies no book and is the same call: their contracts say so of every
+// book that has the place (`HasPlace` of the book's definitions).
 ghost use mathlib.Core.Path.{_≡_};
-ghost use mathlib.Core.Bool.{true};
+ghost use mathlib.Core.Bool.{Bool, true};
+ghost use Prim.Native.Nat.{ℕ};
+ghost use Rattle.benchmark.specs.declared.Benchmarks.{Benchmarks};
 ghost use Rattle.benchmark.specs.Lawful.{Lawful};
 ghost use Rattle.tariff.specs.Tariff.{tariffOf};
+ghost use Rattle.book.specs.declared.Book.{Book};
 ghost use Rattle.book.specs.Calls.{PUT, call, accepted};
 ghost use Rattle.book.specs.Book.{placeWith};
 ghost use Rattle.book.specs.Promises.{Does};
-ghost use Rattle.book.specs.Settling.{Settles};
+ghost use Rattle.book.specs.Settling.{settledIn, Settles, HasPlace};
 ghost use Rattle.stands.specs.Stands.{HoldsValid};
 ghost use Rattle.codes.specs.Codes.{actOn, SettlesOn, Judgeable, Handed, putChecks};
 use benchmark::Benchmarks;
@@ -79,10 +82,10 @@ fn drop_at(code: u32, p: Place, loaded: bool, figures: Benchmarks) -> Settled
     book::settled_by(checked, p, nothing)
 }
 
-// What one of the three does to a place.
+// What one of the three does to a place; so, on every book that has it there, storing what is returned is the call.
 pub fn settle(act: CodeAct, code: u32, p: Place, loaded: bool, figures: Benchmarks) -> Settled
     requires { ⌜ Judgeable act p loaded figures ⌝ }
-    ensures { λ r. ⌜ SettlesOn act code p loaded figures r ⌝ }
+    ensures { λ r. ⌜ SettlesOn act code p loaded figures r × ((b : Book) (i : ℕ) → HasPlace b code i p loaded figures → Does b (call (actOn act code)) (settledIn b i r)) ⌝ }
 {
     match act {
         CodeAct::Open => open_at(code, p, loaded, figures),
@@ -112,9 +115,9 @@ pub fn act_on(b: Book, code: u32, act: CodeAct) -> Done
     }
 }
 
-// PUT (code, tariff). 6, 7, 8. Else the place holds it as a draft, over any draft.
+// PUT (code, tariff). 6, 7, 8. Else the place holds it as a draft, over any draft. The same of its place, and of every book that has it there.
 pub fn put_at(code: u32, p: Place, x: &[u32]) -> Settled
-    ensures { λ r. ⌜ Settles (putChecks code (p .state) (now (x .entry))) accepted p (placeWith State.Draft (tariffOf (now (x .entry)))) r ⌝ }
+    ensures { λ r. ⌜ Settles (putChecks code (p .state) (now (x .entry))) accepted p (placeWith State.Draft (tariffOf (now (x .entry)))) r × ((b : Book) (i : ℕ) (loaded : Bool) (figures : Benchmarks) → HasPlace b code i p loaded figures → Does b (call (PUT code (now (x .entry)))) (settledIn b i r)) ⌝ }
 {
     let inside = book::code_check(code);
     let shut = book::open_check(p);

@@ -30,7 +30,7 @@ element-set-from-place c = search needs
 returns : tie.Need-returns
 returns c =
     let st = c .before .before .before .before .before .before in
-    act-does (st .args .b) _ _ _ (c .before .before .before .before .before .index-of .ensures .1) refl (st .args .act) _ (st .pre) (c .before .before .settle .ensures)
+    act-does (st .args .b) _ _ _ (c .before .before .before .before .before .index-of .ensures .1) refl (st .args .act) _ (st .pre) (c .before .before .settle .ensures .0)
 
 pub act-on-spec : {M : Type 1} → statement M
 act-on-spec =

@@ -25,7 +25,7 @@ element-set-from-place : tie.Need-element-set-from-place
 element-set-from-place c = search needs
 
 returns : tie.Need-returns
-returns c = put-does _ _ _ _ (c .before .before .before .before .index-of .ensures .1) refl _ _ (c .before .before .put-at .ensures)
+returns c = put-does _ _ _ _ (c .before .before .before .before .index-of .ensures .1) refl _ _ (c .before .before .put-at .ensures .0)
 
 pub put-spec : {M : Type 1} → statement M
 put-spec =

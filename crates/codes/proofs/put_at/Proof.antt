@@ -6,11 +6,13 @@ use Rattle.refusal.specs.Checks.{first}
 use Rattle.refusal.proofs.Checks.{first-passes}
 use Rattle.tariff.specs.Tariff.{recordCheck}
 use Rattle.book.specs.declared.State.the-variants.{Draft}
+use Rattle.book.specs.Calls.{accepted}
 use Rattle.book.specs.Book.{placeWith}
 use Rattle.book.specs.Settling.{openCheck, codeCheck}
 use Rattle.book.proofs.Places.{record-length}
 use Rattle.codes.specs.Codes.{putChecks}
 use Rattle.codes.proofs.Answers.{by-checks, refused-by}
+use Rattle.codes.proofs.Places.{puts-there}
 use borrow.Author.Needs.{needs}
 use Rattle.codes.proofs.put_at.Statement.{statement}
 use Rattle.codes.proofs.put_at.Tie as tie
@@ -47,7 +49,9 @@ checks c =
     ∙ ap₂ first (i .code-check .ensures) (c .before .first .ensures ∙ ap₂ first (c .before .before .before .open-check .ensures) (c .before .before .check .ensures))
 
 returns : tie.Need-returns
-returns c = refused-by _ _ _ _ _ _ _ _ (c .settled-by .ensures) (checks (c .before .before .before)) (c .before .enum-told2 .given .1)
+returns c =
+    let s = refused-by _ _ _ accepted _ _ _ _ (c .settled-by .ensures) (checks (c .before .before .before)) (c .before .enum-told2 .given .1) in
+    (s, λ b i loaded figures h. puts-there h _ _ s)
 
 tariff-of-requires : tie.Need-tariff-of-requires
 tariff-of-requires c κs =
@@ -65,7 +69,8 @@ settled-by-requires-2 c κs = search needs
 returns-2 : tie.Need-returns-2
 returns-2 c =
     let t = c .before .before in
-    by-checks _ _ _ _ _ _ (c .settled-by2 .ensures) (checks (t .before .before .before)) (c .before .place-with .ensures ∙ ap (placeWith Draft) (t .tariff-of .ensures))
+    let s = by-checks _ _ _ _ _ _ (c .settled-by2 .ensures) (checks (t .before .before .before)) (c .before .place-with .ensures ∙ ap (placeWith Draft) (t .tariff-of .ensures)) in
+    (s, λ b i loaded figures h. puts-there h _ _ s)
 
 pub put-at-spec : {M : Type 1} → statement M
 put-at-spec =

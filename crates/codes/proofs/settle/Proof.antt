@@ -3,6 +3,7 @@
 use mathlib.Core.Path.{sym, subst}
 use Rattle.codes.specs.declared.CodeAct.{CodeAct}
 use Rattle.codes.specs.Codes.{SettlesOn, Judgeable}
+use Rattle.codes.proofs.Places.{acts}
 use borrow.Author.Needs.{needs}
 use Rattle.codes.proofs.settle.Statement.{statement}
 use Rattle.codes.proofs.settle.Tie as tie
@@ -30,17 +31,20 @@ drop-at-requires c κs = search needs
 returns : tie.Need-returns
 returns c =
     let a = c .before .before .before .args in
-    subst (λ (b : CodeAct). SettlesOn b (a .code) (a .p) (a .loaded) (a .figures) (c .open-at .result)) (sym (c .before .enum-told .given .1)) (c .open-at .ensures)
+    let s = subst (λ (b : CodeAct). SettlesOn b (a .code) (a .p) (a .loaded) (a .figures) (c .open-at .result)) (sym (c .before .enum-told .given .1)) (c .open-at .ensures) in
+    (s, λ b i h. acts h (a .act) (c .open-at .result) s)
 
 returns-2 : tie.Need-returns-2
 returns-2 c =
     let a = c .before .before .before .args in
-    subst (λ (b : CodeAct). SettlesOn b (a .code) (a .p) (a .loaded) (a .figures) (c .close-at .result)) (sym (c .before .enum-told2 .given .1)) (c .close-at .ensures)
+    let s = subst (λ (b : CodeAct). SettlesOn b (a .code) (a .p) (a .loaded) (a .figures) (c .close-at .result)) (sym (c .before .enum-told2 .given .1)) (c .close-at .ensures) in
+    (s, λ b i h. acts h (a .act) (c .close-at .result) s)
 
 returns-3 : tie.Need-returns-3
 returns-3 c =
     let a = c .before .before .before .args in
-    subst (λ (b : CodeAct). SettlesOn b (a .code) (a .p) (a .loaded) (a .figures) (c .drop-at .result)) (sym (c .before .enum-told3 .given .1)) (c .drop-at .ensures)
+    let s = subst (λ (b : CodeAct). SettlesOn b (a .code) (a .p) (a .loaded) (a .figures) (c .drop-at .result)) (sym (c .before .enum-told3 .given .1)) (c .drop-at .ensures) in
+    (s, λ b i h. acts h (a .act) (c .drop-at .result) s)
 
 pub settle-spec : {M : Type 1} → statement M
 settle-spec =

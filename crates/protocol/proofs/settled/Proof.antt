@@ -7,7 +7,7 @@ use lib.ListN.{length}
 use borrow.Author.Needs.{needs}
 use Rattle.lines.proofs.Parts.{rest}
 use Rattle.codes.specs.declared.CodeAct.the-variants.{Open, Close, Drop}
-use Rattle.codes.proofs.Places.{may-judge, acts, puts-there}
+use Rattle.codes.proofs.Places.{may-judge}
 use Rattle.protocol.proofs.settled.Statement.{statement}
 use Rattle.protocol.proofs.settled.Tie as tie
 
@@ -69,16 +69,16 @@ settle-requires-3 : tie.Need-settle-requires-3
 settle-requires-3 c κs = search needs
 
 returns : tie.Need-returns
-returns c b i h = rw (c .before .before .before .enum-told .given .1) (puts-there h _ _ (rw rest at (c .put-at .ensures)))
+returns c b i h = rw (c .before .before .before .enum-told .given .1) (rw rest at (c .put-at .ensures .1 b i _ _ h))
 
 returns-2 : tie.Need-returns-2
-returns-2 c b i h = rw (c .before .before .enum-told2 .given .1) (acts h Open _ (c .settle .ensures))
+returns-2 c b i h = rw (c .before .before .enum-told2 .given .1) (c .settle .ensures .1 b i h)
 
 returns-3 : tie.Need-returns-3
-returns-3 c b i h = rw (c .before .before .enum-told3 .given .1) (acts h Close _ (c .settle2 .ensures))
+returns-3 c b i h = rw (c .before .before .enum-told3 .given .1) (c .settle2 .ensures .1 b i h)
 
 returns-4 : tie.Need-returns-4
-returns-4 c b i h = rw (c .before .before .enum-told4 .given .1) (acts h Drop _ (c .settle3 .ensures))
+returns-4 c b i h = rw (c .before .before .enum-told4 .given .1) (c .settle3 .ensures .1 b i h)
 
 pub settled-spec : {M : Type 1} → statement M
 settled-spec =

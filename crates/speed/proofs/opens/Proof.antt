@@ -4,9 +4,11 @@
 use Prim.Native.Nat.{_-_, _≤_}
 use native.Mathlib.Omega.{arith}
 use Rattle.book.specs.Book.{Reachable}
-use Rattle.codes.specs.declared.CodeAct.the-variants.{Open, Close}
+use Rattle.book.proofs.Reached.{does-reachable}
+use Rattle.codes.specs.declared.CodeAct.the-variants.{Open}
+use Rattle.codes.proofs.Places.{may-judge}
 use borrow.Author.Needs.{needs}
-use Rattle.speed.proofs.Held.{may-settle, stored}
+use Rattle.speed.proofs.Held.{there}
 use Rattle.speed.proofs.opens.Statement.{statement}
 use Rattle.speed.proofs.opens.Tie as tie
 
@@ -43,7 +45,7 @@ element-copy-out-draft c = search needs
 settle-requires : tie.Need-settle-requires Inv-loop μ-loop
 settle-requires c κs =
     let i = c .before .before in
-    may-settle (i .before .before .before .before .loop .inv .1) _ _ (i .index-of .ensures) Open
+    may-judge (there (i .before .before .before .before .loop .inv .1) _ _ (i .index-of .ensures)) Open
 
 mul-opened : tie.Need-mul-opened Inv-loop μ-loop
 mul-opened c = search needs
@@ -85,8 +87,9 @@ loop-again c =
     let d = c .before .before .before in
     let s = d .before .before .before in
     let i = s .before .before .before in
-    let opened = stored (i .before .before .before .before .loop .inv .1) _ _ (i .index-of .ensures) Open _ (s .settle .ensures) in
-    (omega arith, stored opened _ _ (i .index-of .ensures) Close _ (d .settle2 .ensures))
+    let held = i .before .before .before .before .loop .inv .1 in
+    let opened = does-reachable held (s .settle .ensures .1 _ _ (there held _ _ (i .index-of .ensures))) in
+    (omega arith, does-reachable opened (d .settle2 .ensures .1 _ _ (there opened _ _ (i .index-of .ensures))))
 
 returns : tie.Need-returns Inv-loop μ-loop
 returns c = search needs

@@ -13,6 +13,7 @@ use Rattle.tariff.specs.declared.Tariff.{Tariff}
 use Rattle.tariff.specs.Tariff.{tariffOf, standingIn, recordCheck}
 use Rattle.verdict.specs.Cells.{Cell, offered, cellNumbers, Verdict, opens, verdict, verdictAt, firstOver}
 use Rattle.verdict.specs.Cells as cells
+use Rattle.book.specs.declared.Book.{Book}
 use Rattle.book.specs.Calls.{Sheet, Record, Act, SET, PUT, call, Answer, accepted, opened, refused, isAccepted, isNone}
 use Rattle.book.specs.Checks.{figuresOf, complies, verdictAnswer, setAnswer, answer}
 use Rattle.history.specs.History.{readings, answersAfter}
@@ -97,24 +98,18 @@ pub low-opens-too : verdictAnswer (verdict (figuresOf (splitAt 579)) (tariffOf l
 low-opens-too = ap verdictAnswer (splits .verdicts .flat-within)
 
 -- the book after two calls, and its QUOTE
-two-calls : (x : Record) → recordCheck x ≡ Pass → bookOf (SET quarter ∷ PUT 7 x ∷ []) ≡ changed (changed fresh (SET quarter)) (PUT 7 x)
+abbrev afterPut : Record → Book
+afterPut x = changed (changed fresh (SET quarter)) (PUT 7 x)
+
+two-calls : (x : Record) → recordCheck x ≡ Pass → bookOf (SET quarter ∷ PUT 7 x ∷ []) ≡ afterPut x
 unfolding bookAfter step
 two-calls x e = rw (starred .accepted, e)
 
-quote-told : quoteOf (changed (changed fresh (SET quarter)) (PUT 7 steep)) 7 0 1 (300 ∷ 0 ∷ 0 ∷ [])
-    ≡ quotation (record { charge = 246240000000000; maximum = 279704700000000 })
+quotes-told : (quoteOf (afterPut steep) 7 0 1 (300 ∷ 0 ∷ 0 ∷ []) ≡ quotation (record { charge = 246240000000000; maximum = 279704700000000 }))
+    × (quoteOf (afterPut dearIn5) 7 4 1 (100 ∷ 200 ∷ 300 ∷ []) ≡ quotation (record { charge = 464976000000000; maximum = 480051900000000 }))
+    × (quoteOf (afterPut dearIn5) 7 5 1 (100 ∷ 200 ∷ 300 ∷ []) ≡ quotation (record { charge = 468155520000000; maximum = 480051900000000 }))
 unfolding quoteOf cellAllowed monthsAllowed every offered bit cellNumbers standingIn arrangement tierCharge charge maximum charged capped sum total benchmarksOf figures figure tabulate tabulateFrom benchmark wc pc oc nc paenc headroom panc valueOf signed indexed round roundSigned sheetS times periodDays monthBegins lengthAt monthLength leapYear
-quote-told = refl
-
-told-in-4 : quoteOf (changed (changed fresh (SET quarter)) (PUT 7 dearIn5)) 7 4 1 (100 ∷ 200 ∷ 300 ∷ [])
-    ≡ quotation (record { charge = 464976000000000; maximum = 480051900000000 })
-unfolding quoteOf cellAllowed monthsAllowed every offered bit cellNumbers standingIn arrangement tierCharge charge maximum charged capped sum total benchmarksOf figures figure tabulate tabulateFrom benchmark wc pc oc nc paenc headroom panc valueOf signed indexed round roundSigned sheetS times periodDays monthBegins lengthAt monthLength leapYear
-told-in-4 = refl
-
-told-in-5 : quoteOf (changed (changed fresh (SET quarter)) (PUT 7 dearIn5)) 7 5 1 (100 ∷ 200 ∷ 300 ∷ [])
-    ≡ quotation (record { charge = 468155520000000; maximum = 480051900000000 })
-unfolding quoteOf cellAllowed monthsAllowed every offered bit cellNumbers standingIn arrangement tierCharge charge maximum charged capped sum total benchmarksOf figures figure tabulate tabulateFrom benchmark wc pc oc nc paenc headroom panc valueOf signed indexed round roundSigned sheetS times periodDays monthBegins lengthAt monthLength leapYear
-told-in-5 = refl
+quotes-told = (refl, refl, refl)
 
 -- a tariff with a standing charge of its own in region 5
 pub dear-put : checked refused (recordCheck dearIn5) accepted ≡ accepted
@@ -163,9 +158,9 @@ worked =
           told
           (then (passed high-record)
           (then refl (then refl (then quarter-set (then (ap verdictAnswer (starred .verdicts .just-over)) (then low-put (then low-opens ended)))))));
-      quoted = ap (λ b. quoteOf b 7 0 1 (300 ∷ 0 ∷ 0 ∷ [])) (two-calls steep (starred .records .1)) ∙ quote-told;
-      quoted-in-4 = ap (λ b. quoteOf b 7 4 1 (100 ∷ 200 ∷ 300 ∷ [])) (two-calls dearIn5 (regional .records .2)) ∙ told-in-4;
-      quoted-in-5 = ap (λ b. quoteOf b 7 5 1 (100 ∷ 200 ∷ 300 ∷ [])) (two-calls dearIn5 (regional .records .2)) ∙ told-in-5;
+      quoted = ap (λ b. quoteOf b 7 0 1 (300 ∷ 0 ∷ 0 ∷ [])) (two-calls steep (starred .records .1)) ∙ quotes-told .0;
+      quoted-in-4 = ap (λ b. quoteOf b 7 4 1 (100 ∷ 200 ∷ 300 ∷ [])) (two-calls dearIn5 (regional .records .2)) ∙ quotes-told .1;
+      quoted-in-5 = ap (λ b. quoteOf b 7 5 1 (100 ∷ 200 ∷ 300 ∷ [])) (two-calls dearIn5 (regional .records .2)) ∙ quotes-told .2;
       tiers =
           told
           (then quarter-set

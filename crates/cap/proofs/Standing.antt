@@ -1,5 +1,5 @@
--- The standing charge of a cell changes no month of greatest excess: the corners of a tariff and its worst months are the same in every region
--- that allows as much for a kWh, whatever the tariff charges a day there; and each mill a day adds its days to the excess.
+-- The worst months do not depend on the standing charge that counts in a cell; and each mill a day more adds its days to the charge, whatever
+-- the months are.
 -- Assumes nothing.
 use mathlib.Core.Path.{_≡_, refl}
 use mathlib.Core.List.{List}
@@ -9,7 +9,7 @@ use Rattle.shares.specs.Shares.{wholeShare}
 use Rattle.tariff.specs.declared.Tariff.{Tariff}
 use Rattle.charge.specs.Charge.{charge}
 use Rattle.cap.specs.declared.CellNumbers.{CellNumbers}
-use Rattle.cap.specs.Cap.{maximum, charged, capped, share, worstMonth, worstMonths}
+use Rattle.cap.specs.Cap.{charged, share, worstMonth, worstMonths}
 
 -- the numbers of a cell with another standing charge
 abbrev pub numbersAt : ℕ → CellNumbers → CellNumbers
@@ -20,10 +20,6 @@ module _ (standing : ℕ) (e : CellNumbers) (x : Tariff) where
   pub worst-without-standing : worstMonths e x ≡ worstMonths (numbersAt standing e) x
   unfolding worstMonths worstMonth share
   worst-without-standing = refl
-
-  pub capped-without-standing : (months : List ℕ) → capped e months ≡ capped (numbersAt standing e) months
-  unfolding capped maximum
-  capped-without-standing months = refl
 
   pub charged-by-the-day : (added : ℕ) (months : List ℕ)
       → charged (numbersAt (standing + added) e) x months ≡ charged (numbersAt standing e) x months + 12 * e .m * (wholeShare * (added * e .days))

@@ -6,7 +6,7 @@ use native.Mathlib.Omega.{arith}
 use lib.ListN.{length}
 use borrow.Author.Needs.{needs}
 use Rattle.lines.proofs.Parts.{rest}
-use Rattle.codes.specs.declared.CodeAct.the-variants.{Open, Close, Drop}
+use Rattle.codes.specs.declared.CodeAct.the-variants.{Open}
 use Rattle.codes.proofs.Places.{may-judge}
 use Rattle.protocol.proofs.settled.Statement.{statement}
 use Rattle.protocol.proofs.settled.Tie as tie

@@ -182,6 +182,17 @@ fn worse(best: Share, at: u64, charged: u64, slope: u64) -> Share
     }
 }
 
+// The same for a corner that stands after another: where it is the same one again, it has been looked at.
+fn worse_after(best: Share, before: u64, at: u64, charged: u64, slope: u64) -> Share
+    requires { ⌜ (slope ≤ slopeMost) × (at ≤ monthMost) × (charged ≤ monthChargedMost) ⌝ }
+    ensures { λ r. ⌜ ((u : ℕ → ℕ) (b : ℕ) → Raised u slope best → charged ≡ u at → best .month ≡ better u (λ kwh. slope * kwh) before b → Raised u slope r × (r .month ≡ better u (λ kwh. slope * kwh) at (best .month))) ⌝ }
+{
+    if at == before {
+        return best;
+    }
+    worse(best, at, charged, slope)
+}
+
 // The corner of greatest share, or no consumption; the first of equals.
 fn worst_corner(k: Corners, slope: u64) -> Share
     requires { ⌜ Bounded k × (slope ≤ slopeMost) ⌝ }
@@ -194,9 +205,9 @@ fn worst_corner(k: Corners, slope: u64) -> Share
         raised: ROOM,
     };
     let first = worse(none, at[0], charged[0], slope);
-    let second = worse(first, at[1], charged[1], slope);
-    let third = worse(second, at[2], charged[2], slope);
-    worse(third, at[3], charged[3], slope)
+    let second = worse_after(first, at[0], at[1], charged[1], slope);
+    let third = worse_after(second, at[1], at[2], charged[2], slope);
+    worse_after(third, at[2], at[3], charged[3], slope)
 }
 
 // The charge of t months alike, times the scale, from a month's charge so scaled.

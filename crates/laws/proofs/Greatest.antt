@@ -1,7 +1,7 @@
 -- The smallest number at which a difference u x - v x is greatest, with each side of a comparison moved across, so that
 -- only naturals are left; and how it is found by looking at the ends of straight pieces alone.
 -- Assumes nothing.
-use mathlib.Core.Path.{_≡_, refl}
+use mathlib.Core.Path.{_≡_, refl, ap}
 use mathlib.Core.Bool.{Bool, true, false, cond}
 use mathlib.Core.List.{List, [], _∷_}
 use mathlib.Core.Logic.{_⊎_, inl, inr}
@@ -26,6 +26,18 @@ beats u v x b = ltb (u b + v x) (u x + v b)
 
 abbrev pub better : (ℕ → ℕ) → (ℕ → ℕ) → ℕ → ℕ → ℕ
 better u v x b = cond (beats u v x b) x b
+
+-- x looked at twice
+pub better-again : (u v : ℕ → ℕ) (x b : ℕ) → better u v x (better u v x b) ≡ better u v x b
+better-again u v x b = go (beats u v x b) refl
+  where
+    either : (t : Bool) → cond t x x ≡ x
+    either true = refl
+    either false = refl
+
+    go : (t : Bool) → beats u v x b ≡ t → better u v x (cond t x b) ≡ cond t x b
+    go true e = either (beats u v x x)
+    go false e = ap (λ t. cond t x b) e
 
 -- b is the smallest of 0 to n with the greatest difference, in naturals
 pub record Best (u v : ℕ → ℕ) (n b : ℕ) : Type 0 where

@@ -16,38 +16,47 @@ array-read-worse-2 c = search needs
 worse-requires : tie.Need-worse-requires
 worse-requires c κs = let st = c .before .before in (st .pre .1, st .pre .0 .at-most 0, st .pre .0 .charged-most 0)
 
-array-read-worse-3 : tie.Need-array-read-worse-3
-array-read-worse-3 c = search needs
+array-read-worse-after : tie.Need-array-read-worse-after
+array-read-worse-after c = search needs
 
-array-read-worse-4 : tie.Need-array-read-worse-4
-array-read-worse-4 c = search needs
+array-read-worse-after-2 : tie.Need-array-read-worse-after-2
+array-read-worse-after-2 c = search needs
 
-worse-requires-2 : tie.Need-worse-requires-2
-worse-requires-2 c κs = let st = c .before .before .before in (st .pre .1, st .pre .0 .at-most 1, st .pre .0 .charged-most 1)
+array-read-worse-after-3 : tie.Need-array-read-worse-after-3
+array-read-worse-after-3 c = search needs
 
-array-read-worse-5 : tie.Need-array-read-worse-5
-array-read-worse-5 c = search needs
+worse-after-requires : tie.Need-worse-after-requires
+worse-after-requires c κs = let st = c .before .before .before in (st .pre .1, st .pre .0 .at-most 1, st .pre .0 .charged-most 1)
 
-array-read-worse-6 : tie.Need-array-read-worse-6
-array-read-worse-6 c = search needs
+array-read-worse-after-4 : tie.Need-array-read-worse-after-4
+array-read-worse-after-4 c = search needs
 
-worse-requires-3 : tie.Need-worse-requires-3
-worse-requires-3 c κs = let st = c .before .before .before .before in (st .pre .1, st .pre .0 .at-most 2, st .pre .0 .charged-most 2)
+array-read-worse-after-5 : tie.Need-array-read-worse-after-5
+array-read-worse-after-5 c = search needs
 
-array-read-worse-7 : tie.Need-array-read-worse-7
-array-read-worse-7 c = search needs
+array-read-worse-after-6 : tie.Need-array-read-worse-after-6
+array-read-worse-after-6 c = search needs
 
-array-read-worse-8 : tie.Need-array-read-worse-8
-array-read-worse-8 c = search needs
+worse-after-requires-2 : tie.Need-worse-after-requires-2
+worse-after-requires-2 c κs = let st = c .before .before .before .before in (st .pre .1, st .pre .0 .at-most 2, st .pre .0 .charged-most 2)
 
-worse-requires-4 : tie.Need-worse-requires-4
-worse-requires-4 c κs = let st = c .before .before .before .before .before in (st .pre .1, st .pre .0 .at-most 3, st .pre .0 .charged-most 3)
+array-read-worse-after-7 : tie.Need-array-read-worse-after-7
+array-read-worse-after-7 c = search needs
+
+array-read-worse-after-8 : tie.Need-array-read-worse-after-8
+array-read-worse-after-8 c = search needs
+
+array-read-worse-after-9 : tie.Need-array-read-worse-after-9
+array-read-worse-after-9 c = search needs
+
+worse-after-requires-3 : tie.Need-worse-after-requires-3
+worse-after-requires-3 c κs = let st = c .before .before .before .before .before in (st .pre .1, st .pre .0 .at-most 3, st .pre .0 .charged-most 3)
 
 returns : tie.Need-returns
 returns c =
     let st = c .before .before .before .before .before .before in
     let l : length (st .args .k .at) ≡ 4 = search needs in
-    four-looks (st .args .slope) (st .args .k) _ _ _ _ l (c .before .before .before .worse .ensures) (c .before .before .worse2 .ensures) (c .before .worse3 .ensures) (c .worse4 .ensures)
+    four-looks (st .args .slope) (st .args .k) _ _ _ _ l (c .before .before .before .worse .ensures) (c .before .before .worse-after .ensures) (c .before .worse-after2 .ensures) (c .worse-after3 .ensures)
 
 pub worst-corner-spec : {M : Type 1} → statement M
 worst-corner-spec =
@@ -56,13 +65,16 @@ worst-corner-spec =
     array-read-worse
     array-read-worse-2
     worse-requires
-    array-read-worse-3
-    array-read-worse-4
-    worse-requires-2
-    array-read-worse-5
-    array-read-worse-6
-    worse-requires-3
-    array-read-worse-7
-    array-read-worse-8
-    worse-requires-4
+    array-read-worse-after
+    array-read-worse-after-2
+    array-read-worse-after-3
+    worse-after-requires
+    array-read-worse-after-4
+    array-read-worse-after-5
+    array-read-worse-after-6
+    worse-after-requires-2
+    array-read-worse-after-7
+    array-read-worse-after-8
+    array-read-worse-after-9
+    worse-after-requires-3
     returns)

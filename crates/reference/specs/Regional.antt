@@ -16,8 +16,8 @@ abbrev pub withMore : List ℕ → List ℕ
 withMore fourteen = adding fourteen (flat 23000 18000)
 
 -- the same, offered in region 0 alone
-abbrev pub inRegion0 : List ℕ → List ℕ
-inRegion0 fourteen = set (withMore fourteen) 3 1
+abbrev pub offeredIn0 : List ℕ → List ℕ
+offeredIn0 fourteen = set (withMore fourteen) 3 1
 
 pub record RegionalVerdicts (judge : List ℕ → Verdict) : Type 0 where
   -- 960 in every region is within the cap; 961 in one region alone is over it there, in the fifth, in the first and in the last
@@ -43,7 +43,7 @@ pub record Regional : Type 0 where
   -- field 2 keeps its own range
   pub field-2 : (recordCheck (flat 1000000 18000) ≡ Pass) × (recordCheck (flat 1000001 18000) ≡ Refuse 8)
   -- a region not offered has 0
-  pub not-offered : (recordCheck (inRegion0 (inRegion 0 960)) ≡ Pass) × (recordCheck (inRegion0 (inRegion 1 1)) ≡ Refuse 8) × (recordCheck (inRegion0 (inRegion 13 1)) ≡ Refuse 8)
+  pub not-offered : (recordCheck (offeredIn0 (inRegion 0 960)) ≡ Pass) × (recordCheck (offeredIn0 (inRegion 1 1)) ≡ Refuse 8) × (recordCheck (offeredIn0 (inRegion 13 1)) ≡ Refuse 8)
   -- 27 numbers, and not 26, 28 or the 13 of before
   pub lengths : (recordCheck (take 26 (flat 23000 18000)) ≡ Refuse 8) × (recordCheck (flat 23000 18000 ++ (0 ∷ [])) ≡ Refuse 8) × (recordCheck (take 13 (flat 23000 18000)) ≡ Refuse 8)
   -- each of these records is a tariff

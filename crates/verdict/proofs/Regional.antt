@@ -38,13 +38,13 @@ module _ (b : Benchmarks) (x : Tariff) (c : Cell) where
   worst-for-any-standing standing = worst-without-standing standing (tariffNumbers b x c) x
 
 -- a tariff with other numbers in the fourteen
-abbrev pub adding : List ℕ → Tariff → Tariff
-adding fourteen x =
+abbrev pub withNumbers : List ℕ → Tariff → Tariff
+withNumbers fourteen x =
     record { kind = x .kind; n = x .n; standing = x .standing; regions = x .regions; methods = x .methods; rates = x .rates; steps = x .steps; regional = fourteen }
 
 -- two that add the same in the region of a cell exceed there alike
 pub counts-in-its-region : (b : Benchmarks) (x : Tariff) (c : Cell) (some others : List ℕ) → getD some (c .region) 0 ≡ getD others (c .region) 0
-    → ExceedsIn b (adding some x) c → ExceedsIn b (adding others x) c
+    → ExceedsIn b (withNumbers some x) c → ExceedsIn b (withNumbers others x) c
 unfolding standingIn cellNumbers arrangement excess charged capped charge
 counts-in-its-region b x c some others same h =
     subst (λ (s : ℕ). Exceeds (cellNumbers b (arrangement x) (x .standing + s) c) x) same h

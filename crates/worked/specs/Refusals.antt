@@ -9,7 +9,7 @@ use Rattle.sheet.specs.Sheet.{termsFit}
 use Rattle.benchmark.specs.Benchmark.{figures, ocsFit, ordered}
 use Rattle.book.specs.Calls.{Sheet, sheetAt, Record, SET, PUT, OPEN, CLOSE, DROP, accepted, refused}
 use Rattle.reference.specs.SheetS.{sheetS, withSplit, periodS, inRegion, offeredEverywhere, twoRegisters}
-use Rattle.reference.specs.Regional.{withMore, inRegion0}
+use Rattle.reference.specs.Regional.{withMore, offeredIn0}
 use Rattle.unlike.specs.SheetU.{lonePair}
 use Rattle.worked.specs.Worked.{splitAt, answersTo}
 
@@ -91,7 +91,7 @@ pub record Refusals : Type 0 where
   pub put-shares : answersTo (PUT 9 (withShares 579 420) ∷ PUT 9 (withShares 580 421) ∷ PUT 9 (withShares 1001 0) ∷ PUT 9 (withShares 58 42) ∷ PUT 9 (withShares 1000 0) ∷ PUT 9 (withShares 580 420) ∷ [])
       ≡ refused 8 ∷ refused 8 ∷ refused 8 ∷ refused 8 ∷ accepted ∷ accepted ∷ []
   -- 8: what a region adds counts, in the last one too; a region not offered adds 0; and a record of 13 numbers is none now
-  pub put-regions : answersTo (PUT 9 (withMore (inRegion 13 977000)) ∷ PUT 9 (withMore (inRegion 13 977001)) ∷ PUT 9 (withMore (inRegion 13 4294967295)) ∷ PUT 9 (inRegion0 (inRegion 1 1)) ∷ PUT 9 (inRegion0 (inRegion 0 1)) ∷ PUT 9 (take 13 (withShares 580 420)) ∷ [])
+  pub put-regions : answersTo (PUT 9 (withMore (inRegion 13 977000)) ∷ PUT 9 (withMore (inRegion 13 977001)) ∷ PUT 9 (withMore (inRegion 13 4294967295)) ∷ PUT 9 (offeredIn0 (inRegion 1 1)) ∷ PUT 9 (offeredIn0 (inRegion 0 1)) ∷ PUT 9 (take 13 (withShares 580 420)) ∷ [])
       ≡ accepted ∷ refused 8 ∷ refused 8 ∷ refused 8 ∷ accepted ∷ refused 8 ∷ []
   -- 9: an empty place has nothing to close, to open or to drop
   pub empty-place : answersTo (CLOSE 20 ∷ OPEN 20 ∷ DROP 20 ∷ []) ≡ refused 9 ∷ refused 9 ∷ refused 9 ∷ []

@@ -19,9 +19,11 @@ use Rattle.refusal.proofs.Checks.{unless-passes}
 use Rattle.benchmark.specs.declared.Benchmarks.{Benchmarks}
 use Rattle.tariff.specs.Tariff.{recordLength, tariffOf, validTariff, recordCheck}
 use Rattle.book.specs.declared.Place.{Place}
+use Rattle.book.specs.declared.Book.{Book}
 use Rattle.book.specs.Calls.{Record}
 use Rattle.book.specs.Checks.{Holding, inside}
-use Rattle.book.specs.Book.{empty, fresh, beyond, placeOf, setPlace, held, under}
+use Rattle.book.specs.Book.{empty, fresh, beyond, placeOf, setPlace, held, under, Reachable}
+use Rattle.book.specs.Settling.{HasPlace}
 
 -- a code that passes refusal 6 is 1 to 32
 pub code-range : (k : ℕ) → inside k ≡ true → (1 ≤ k) × (k ≤ 32)
@@ -76,6 +78,11 @@ held-inside ps (suc i) h l e = go (decLt i 32)
         let out : getD ps i beyond ≡ beyond = List·getD-eq-default ps beyond (omega arith) in
         let gone : held (getD ps i beyond) ≡ none = ap held out in
         never (cc)
+
+-- a book has, at the index of a code, the place that stands there
+pub has-there : {b : Book} → Reachable b → (k i : ℕ) → (i < 32) × (inside k ≡ true → suc i ≡ k)
+    → HasPlace b k i (getD (b .places) i beyond) (b .loaded) (b .benchmarks)
+has-there r k i h = record { reachable = r; within = h .0; index = h .1; place = refl; is-loaded = refl; has-figures = refl }
 
 -- a record that passes refusal 8 has 27 numbers, and its tariff is valid
 parts : (x : Record) → recordCheck x ≡ Pass → (eqb (length x) recordLength && validTariff (tariffOf x)) ≡ true

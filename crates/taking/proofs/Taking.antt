@@ -26,6 +26,7 @@ use Rattle.request.specs.declared.Word.the-variants.{On}
 use Rattle.request.specs.Requests.{arity, RightCount}
 use Rattle.protocol.specs.Lines.{lineAt}
 use Rattle.book.specs.Settling.{HasPlace}
+use Rattle.book.proofs.Places.{has-there}
 use Rattle.lines.proofs.Parts.{length-between}
 use Rattle.input.specs.declared.Input.{Input}
 use Rattle.input.proofs.Between.{between-split, between-one, between-none}
@@ -115,14 +116,7 @@ pub has-place : (b : Book) (numbers : List ℕ) (n i : ℕ) → Reachable b → 
     → HasPlace b (getD (take n numbers) 0 0) i (getD (b .places) i beyond) (b .loaded) (b .benchmarks)
 has-place b numbers n i r m h =
     let same = getD-take n numbers 0 0 (omega arith) in
-    record {
-      reachable = r;
-      within = h .0;
-      index = subst (λ k. inside k ≡ true → suc i ≡ k) (sym same) (h .1);
-      place = refl;
-      is-loaded = refl;
-      has-figures = refl;
-    }
+    has-there r (getD (take n numbers) 0 0) i (h .0, subst (λ k. inside k ≡ true → suc i ≡ k) (sym same) (h .1))
 
 -- what the loop of `take_lines` has done so far
 pub record Sofar (b : Book) (lines : ℕ) (i : Input) (input before after : List ℕ) (book : Book) (from : ℕ) (cut : Bool) (l at end : ℕ) : Type 0 where

@@ -14,6 +14,18 @@ use Rattle.cap.specs.Cap.{charged, capped, excess, Exceeds, worstMonths}
 use Rattle.cap.proofs.Standing.{worst-without-standing}
 use Rattle.verdict.specs.Cells.{Cell, cellNumbers, tariffNumbers, ExceedsIn}
 
+-- a tariff with other numbers in the fourteen
+abbrev pub withNumbers : List ℕ → Tariff → Tariff
+withNumbers fourteen x =
+    record { kind = x .kind; n = x .n; standing = x .standing; regions = x .regions; methods = x .methods; rates = x .rates; steps = x .steps; regional = fourteen }
+
+-- two that add the same in the region of a cell exceed there alike
+pub counts-in-its-region : (b : Benchmarks) (x : Tariff) (c : Cell) (some others : List ℕ) → getD some (c .region) 0 ≡ getD others (c .region) 0
+    → ExceedsIn b (withNumbers some x) c → ExceedsIn b (withNumbers others x) c
+unfolding standingIn cellNumbers arrangement excess charged capped charge
+counts-in-its-region b x c some others same h =
+    subst (λ (s : ℕ). Exceeds (cellNumbers b (arrangement x) (x .standing + s) c) x) same h
+
 -- 0 in all fourteen
 abbrev pub NothingAdded : Tariff → Type 0
 NothingAdded x = (region : ℕ) → getD (x .regional) region 0 ≡ 0
@@ -36,15 +48,3 @@ module _ (b : Benchmarks) (x : Tariff) (c : Cell) where
   pub worst-for-any-standing : (standing : ℕ) → worstMonths (tariffNumbers b x c) x ≡ worstMonths (cellNumbers b (arrangement x) standing c) x
   unfolding cellNumbers
   worst-for-any-standing standing = worst-without-standing standing (tariffNumbers b x c) x
-
--- a tariff with other numbers in the fourteen
-abbrev pub withNumbers : List ℕ → Tariff → Tariff
-withNumbers fourteen x =
-    record { kind = x .kind; n = x .n; standing = x .standing; regions = x .regions; methods = x .methods; rates = x .rates; steps = x .steps; regional = fourteen }
-
--- two that add the same in the region of a cell exceed there alike
-pub counts-in-its-region : (b : Benchmarks) (x : Tariff) (c : Cell) (some others : List ℕ) → getD some (c .region) 0 ≡ getD others (c .region) 0
-    → ExceedsIn b (withNumbers some x) c → ExceedsIn b (withNumbers others x) c
-unfolding standingIn cellNumbers arrangement excess charged capped charge
-counts-in-its-region b x c some others same h =
-    subst (λ (s : ℕ). Exceeds (cellNumbers b (arrangement x) (x .standing + s) c) x) same h

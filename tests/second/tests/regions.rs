@@ -6,42 +6,12 @@
 
 mod common;
 
-use common::{by_region, reference, reference_book, tariff, with_zeros, ALL};
-use second::{Book, NotOpened, Quote, Refusal, State, RECORD, REGIONAL};
+use common::Verdict::{Opens, Over};
+use common::{by_region, opened, reference, reference_book, tariff, verdict, with_zeros, ALL};
+use second::{Book, Quote, Refusal, State, RECORD, REGIONAL};
 
 fn put(book: &mut Book, record: &[u32]) -> u32 {
     book.put(1, record).map_or_else(Refusal::number, |()| 0)
-}
-
-/// What OPEN of a tariff says: the number of cells, or region, method, excess and months.
-#[derive(Clone, Debug, PartialEq)]
-enum Verdict {
-    Opens(u32),
-    Over(u32, u32, u64, Vec<u32>),
-}
-
-use Verdict::{Opens, Over};
-
-fn verdict(book: &mut Book, record: &[u32]) -> Verdict {
-    book.put(1, record).unwrap();
-    opened(book, 1)
-}
-
-/// The same of the draft at a code, which stays one.
-fn opened(book: &mut Book, code: u32) -> Verdict {
-    match book.open(code) {
-        Ok(cells) => {
-            book.close(code).unwrap();
-            Opens(cells)
-        }
-        Err(NotOpened::OverCap(breach)) => Over(
-            breach.region,
-            breach.method,
-            breach.excess,
-            breach.months().to_vec(),
-        ),
-        Err(NotOpened::Refused(refusal)) => panic!("refused {}", refusal.number()),
-    }
 }
 
 /// 23,000 and the rate 18,000 everywhere, with these numbers by region.

@@ -4,7 +4,8 @@
 
 mod common;
 
-use common::{reference, reference_book, tariff};
+use common::Verdict::{Opens, Over};
+use common::{reference, reference_book, tariff, verdict, Verdict};
 use second::random::Random;
 use second::{period_days, Book, Maximum, NotOpened, Quote, Refusal, State, RECORD};
 
@@ -46,32 +47,6 @@ fn answer(sheet: &[u32]) -> u32 {
 
 fn put(book: &mut Book, record: &[u32]) -> u32 {
     book.put(1, record).map_or_else(Refusal::number, |()| 0)
-}
-
-/// What OPEN of a tariff says: the number of cells, or region, method, excess and months.
-#[derive(Debug, PartialEq)]
-enum Verdict {
-    Opens(u32),
-    Over(u32, u32, u64, Vec<u32>),
-}
-
-use Verdict::{Opens, Over};
-
-fn verdict(book: &mut Book, record: &[u32]) -> Verdict {
-    book.put(1, record).unwrap();
-    match book.open(1) {
-        Ok(cells) => {
-            book.close(1).unwrap();
-            Opens(cells)
-        }
-        Err(NotOpened::OverCap(breach)) => Over(
-            breach.region,
-            breach.method,
-            breach.excess,
-            breach.months().to_vec(),
-        ),
-        Err(NotOpened::Refused(refusal)) => panic!("refused {}", refusal.number()),
-    }
 }
 
 /// Over the cap in region 0 by Other, at these months.

@@ -4,11 +4,11 @@
 use Prim.Native.Nat.{_-_, _≤_}
 use native.Mathlib.Omega.{arith}
 use Rattle.book.specs.Book.{Reachable}
+use Rattle.book.proofs.Places.{has-there}
 use Rattle.book.proofs.Reached.{does-reachable}
 use Rattle.codes.specs.declared.CodeAct.the-variants.{Open}
 use Rattle.codes.proofs.Places.{may-judge}
 use borrow.Author.Needs.{needs}
-use Rattle.speed.proofs.Held.{there}
 use Rattle.speed.proofs.opens.Statement.{statement}
 use Rattle.speed.proofs.opens.Tie as tie
 
@@ -45,7 +45,7 @@ element-copy-out-draft c = search needs
 settle-requires : tie.Need-settle-requires Inv-loop μ-loop
 settle-requires c κs =
     let i = c .before .before in
-    may-judge (there (i .before .before .before .before .loop .inv .1) _ _ (i .index-of .ensures)) Open
+    may-judge (has-there (i .before .before .before .before .loop .inv .1) _ _ (i .index-of .ensures)) Open
 
 mul-opened : tie.Need-mul-opened Inv-loop μ-loop
 mul-opened c = search needs
@@ -88,8 +88,8 @@ loop-again c =
     let s = d .before .before .before in
     let i = s .before .before .before in
     let held = i .before .before .before .before .loop .inv .1 in
-    let opened = does-reachable held (s .settle .ensures .1 _ _ (there held _ _ (i .index-of .ensures))) in
-    (omega arith, does-reachable opened (d .settle2 .ensures .1 _ _ (there opened _ _ (i .index-of .ensures))))
+    let opened = does-reachable held (s .settle .ensures .1 _ _ (has-there held _ _ (i .index-of .ensures))) in
+    (omega arith, does-reachable opened (d .settle2 .ensures .1 _ _ (has-there opened _ _ (i .index-of .ensures))))
 
 returns : tie.Need-returns Inv-loop μ-loop
 returns c = search needs

@@ -3,11 +3,11 @@
 use Prim.Native.Nat.{_-_, _≤_}
 use native.Mathlib.Omega.{arith}
 use Rattle.book.specs.Book.{Reachable}
+use Rattle.book.proofs.Places.{has-there}
 use Rattle.book.proofs.Reached.{does-reachable}
 use Rattle.codes.specs.declared.CodeAct.the-variants.{Open}
 use Rattle.codes.proofs.Places.{may-judge}
 use borrow.Author.Needs.{needs}
-use Rattle.speed.proofs.Held.{there}
 use Rattle.speed.proofs.overs.Statement.{statement}
 use Rattle.speed.proofs.overs.Tie as tie
 
@@ -44,7 +44,7 @@ element-copy-out-draft c = search needs
 settle-requires : tie.Need-settle-requires Inv-loop μ-loop
 settle-requires c κs =
     let i = c .before .before in
-    may-judge (there (i .before .before .before .before .loop .inv .1) _ _ (i .index-of .ensures)) Open
+    may-judge (has-there (i .before .before .before .before .loop .inv .1) _ _ (i .index-of .ensures)) Open
 
 mul-place : tie.Need-mul-place Inv-loop μ-loop
 mul-place c = search needs
@@ -84,7 +84,7 @@ loop-again c =
     let s = c .before .before .before .before .before .before .before in
     let i = s .before .before .before in
     let held = i .before .before .before .before .loop .inv .1 in
-    (omega arith, does-reachable held (s .settle .ensures .1 _ _ (there held _ _ (i .index-of .ensures))))
+    (omega arith, does-reachable held (s .settle .ensures .1 _ _ (has-there held _ _ (i .index-of .ensures))))
 
 returns : tie.Need-returns Inv-loop μ-loop
 returns c = search needs

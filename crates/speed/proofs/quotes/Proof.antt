@@ -3,8 +3,8 @@
 use mathlib.Core.Path.{_≡_}
 use Prim.Native.Nat.{_-_, _≤_}
 use lib.ListN.{length}
+use Rattle.book.proofs.Places.{has-there}
 use borrow.Author.Needs.{needs}
-use Rattle.speed.proofs.Held.{there}
 use Rattle.speed.proofs.quotes.Statement.{statement}
 use Rattle.speed.proofs.quotes.Tie as tie
 
@@ -69,7 +69,7 @@ quote-at-requires : tie.Need-quote-at-requires Inv-loop μ-loop
 quote-at-requires c κs =
     let i = c .before .before .before .before in
     let b = i .before .before .before .before .before .before .before .before .before in
-    (_, _, there (b .with-open .ensures) _ _ (i .index-of .ensures))
+    (_, _, has-there (b .with-open .ensures) _ _ (i .index-of .ensures))
 
 fold-told-requires : tie.Need-fold-told-requires Inv-loop μ-loop
 fold-told-requires c κs = search needs

@@ -1,7 +1,7 @@
 //! The reference sheet, written out from document 01, with the split of 28AD.31 (document 02, M-103).
 #![allow(dead_code)]
 
-use second::{Book, RECORD, REGIONAL};
+use second::{Book, NotOpened, RECORD, REGIONAL};
 
 pub const ALL: u32 = 16_383;
 
@@ -57,4 +57,34 @@ pub fn by_region(record: [u32; RECORD], numbers: &[(usize, u32)]) -> [u32; RECOR
         record[REGIONAL + region] = number;
     }
     record
+}
+
+/// What OPEN of a tariff says: the number of cells, or region, method, excess and months.
+#[derive(Clone, Debug, PartialEq)]
+pub enum Verdict {
+    Opens(u32),
+    Over(u32, u32, u64, Vec<u32>),
+}
+
+/// The verdict on a tariff put at code 1, which stays a draft there.
+pub fn verdict(book: &mut Book, record: &[u32]) -> Verdict {
+    book.put(1, record).unwrap();
+    opened(book, 1)
+}
+
+/// The same of the draft at a code, which stays one.
+pub fn opened(book: &mut Book, code: u32) -> Verdict {
+    match book.open(code) {
+        Ok(cells) => {
+            book.close(code).unwrap();
+            Verdict::Opens(cells)
+        }
+        Err(NotOpened::OverCap(breach)) => Verdict::Over(
+            breach.region,
+            breach.method,
+            breach.excess,
+            breach.months().to_vec(),
+        ),
+        Err(NotOpened::Refused(refusal)) => panic!("refused {}", refusal.number()),
+    }
 }

@@ -11,21 +11,23 @@ use Rattle.laws.proofs.Lists.{noughts}
 use Rattle.refusal.specs.declared.Check.{Check}
 use Rattle.refusal.specs.declared.Check.the-variants.{Pass, Refuse}
 use Rattle.refusal.specs.Checks.{unless, first, checked, need}
-use Rattle.benchmark.specs.Benchmark.{setCheck}
+use Rattle.book.specs.declared.Reply.{Reply}
+use Rattle.book.specs.declared.Reply.the-variants as reply
 use Rattle.book.specs.declared.Place.{Place}
+use Rattle.book.specs.declared.Kept.{Kept}
 use Rattle.book.specs.declared.Book.{Book}
 use Rattle.book.specs.declared.Settled.{Settled}
-use Rattle.book.specs.Calls.{Sheet, SET, Call, call, Answer, accepted, refused, isAccepted}
+use Rattle.book.specs.Calls.{Call, Answer, accepted, refused, isAccepted}
 use Rattle.book.specs.Checks.{Holding, inside, answer}
-use Rattle.book.specs.Book.{beyond, placeOf, held, bookReadings, withPlaces, withPlace, changed, after, step}
-use Rattle.book.specs.Promises.{Does}
-use Rattle.book.specs.Settling.{codeCheck, settledBy, doneBy, settledIn, Settles}
+use Rattle.book.specs.Book.{nothingKept, beyond, placeOf, setPlace, held, bookReadings, withPlaces, withPlace, changed, after, step}
+use Rattle.book.specs.Promises.{answerOf, Does}
+use Rattle.book.specs.Settling.{codeCheck, settledBy, doneBy, acceptedBy, keptAfter, settledIn, Settles}
 
 -- "Any call refused changes nothing", and the book after an accepted one
 module _ (b : Book) (c : Call) (a : Answer) where
-  pub kept : answer (bookReadings b) (c .act) ≡ a → isAccepted a ≡ false → step b c .book ≡ b
+  pub unchanged : answer (bookReadings b) (c .act) ≡ a → isAccepted a ≡ false → step b c .book ≡ b
   unfolding step
-  kept e f = ap (λ d. after d b (c .act)) e ∙ ap (λ t. cond t (changed b (c .act)) b) f
+  unchanged e f = ap (λ d. after d b (c .act)) e ∙ ap (λ t. cond t (changed b (c .act)) b) f
 
   pub made : answer (bookReadings b) (c .act) ≡ a → isAccepted a ≡ true → step b c .book ≡ changed b (c .act)
   unfolding step
@@ -35,26 +37,25 @@ pub answered-by : (b : Book) (c : Call) → step b c .answer ≡ answer (bookRea
 unfolding step
 answered-by b c = refl
 
--- SET: refused, or accepted with the book that it leaves
-module _ (b : Book) (s : Sheet) where
-  pub set-refuses : (check : Check) (n : ℕ) → check ≡ setCheck (s .fields) (s .period) → check ≡ Refuse n → Does b (call (SET s)) (doneBy check b)
-  set-refuses check n e f =
-      let a : answer (bookReadings b) (SET s) ≡ refused n = ap (λ c. checked refused c accepted) (sym e ∙ f) in
+-- SET and UNDO, which their checks alone decide: refused, or accepted with the book that the call leaves
+module _ (b : Book) (c : Call) (checks : Check) (by : answer (bookReadings b) (c .act) ≡ checked refused checks accepted) where
+  pub refuses : (check : Check) (n : ℕ) → check ≡ checks → check ≡ Refuse n → Does b c (doneBy check b)
+  refuses check n e f =
+      let a : answer (bookReadings b) (c .act) ≡ refused n = by ∙ ap (λ k. checked refused k accepted) (sym e ∙ f) in
       rw f
       (record {
-        answers = sym (answered-by b (call (SET s)) ∙ a);
-        leaves = sym (kept b (call (SET s)) (refused n) a refl);
+        answers = sym (answered-by b c ∙ a);
+        leaves = sym (unchanged b c (refused n) a refl);
         rest-nought = λ i l. noughts 12 i;
       })
 
-  pub set-accepts : (check : Check) → check ≡ setCheck (s .fields) (s .period) → check ≡ Pass → (d : Book) → d ≡ changed b (SET s)
-      → Does b (call (SET s)) (doneBy check d)
-  set-accepts check e f d g =
-      let a : answer (bookReadings b) (SET s) ≡ accepted = ap (λ c. checked refused c accepted) (sym e ∙ f) in
+  pub accepts : (check : Check) → check ≡ checks → check ≡ Pass → (d : Book) → d ≡ changed b (c .act) → Does b c (doneBy check d)
+  accepts check e f d g =
+      let a : answer (bookReadings b) (c .act) ≡ accepted = by ∙ ap (λ k. checked refused k accepted) (sym e ∙ f) in
       rw f
       (record {
-        answers = sym (answered-by b (call (SET s)) ∙ a);
-        leaves = g ∙ sym (made b (call (SET s)) accepted a refl);
+        answers = sym (answered-by b c ∙ a);
+        leaves = g ∙ sym (made b c accepted a refl);
         rest-nought = λ i l. noughts 12 i;
       })
 
@@ -69,8 +70,15 @@ set-read [] i p e = refl
 set-read (q ∷ ps) zero p e = ap (λ x. x ∷ ps) (sym e)
 set-read (q ∷ ps) (suc i) p e = ap (λ xs. q ∷ xs) (set-read ps i p e)
 
-same-place : (b : Book) (at : ℕ) (p : Place) → getD (b .places) at beyond ≡ p → withPlace b (suc at) p ≡ b
-same-place b at p e = ap (withPlaces b) (set-read (b .places) at p e)
+same-place : (b : Book) (at : ℕ) (p : Place) → getD (b .places) at beyond ≡ p → withPlaces b (setPlace (b .places) (suc at) p) (b .kept) ≡ b
+same-place b at p e = ap (λ ps. withPlaces b ps (b .kept)) (set-read (b .places) at p e)
+
+-- what is kept for UNDO goes by whether the answer accepts
+kept-by : (q : Reply) (months : List ℕ) (k : Kept) → keptAfter q k ≡ cond (isAccepted (answerOf q months)) nothingKept k
+kept-by reply.Accepted months k = refl
+kept-by (reply.Opened cells) months k = refl
+kept-by (reply.Refused number) months k = refl
+kept-by (reply.Over region method t excess) months k = refl
 
 -- the place at the index of a code; of a code outside 1 to 32 any index will do
 module _ (b : Book) (k at : ℕ) (p : Place) (index : inside k ≡ true → suc at ≡ k) (there : getD (b .places) at beyond ≡ p) where
@@ -98,7 +106,10 @@ module _ (b : Book) (k at : ℕ) (p : Place) (index : inside k ≡ true → suc 
   settles-does c rest next f r e g h =
       record {
         answers = h .answers ∙ sym (answered-by b c ∙ e);
-        leaves = ap (withPlace b (suc at)) (h .leaves) ∙ go (isAccepted (checked refused (first (codeCheck k) rest) next)) refl;
+        leaves =
+            ap₂ (λ q s. withPlaces b (setPlace (b .places) (suc at) q) s) (h .leaves)
+            (kept-by (r .reply) (r .months) (b .kept) ∙ ap (λ d. cond (isAccepted d) nothingKept (b .kept)) (h .answers))
+            ∙ go (isAccepted a) refl;
         rest-nought = h .rest-nought;
       }
     where
@@ -109,7 +120,20 @@ module _ (b : Book) (k at : ℕ) (p : Place) (index : inside k ≡ true → suc 
       coded true q = refl
       coded false q = never (cc)
 
-      go : (t : Bool) → isAccepted (checked refused (first (codeCheck k) rest) next) ≡ t
-          → withPlace b (suc at) (cond t (f p) p) ≡ step b c .book
+      go : (t : Bool) → isAccepted a ≡ t
+          → withPlaces b (setPlace (b .places) (suc at) (cond t (f p) p)) (cond t nothingKept (b .kept)) ≡ step b c .book
       go true q = sym (stored-there f (coded (inside k) q)) ∙ sym g ∙ sym (made b c _ e q)
-      go false q = same-place b at p there ∙ sym (kept b c _ e q)
+      go false q = same-place b at p there ∙ sym (unchanged b c _ e q)
+
+-- where what is kept is stored by itself, behind a test whether the answer accepts
+module _ (q : Reply) (k : Kept) where
+  pub kept-if : acceptedBy q ≡ true → nothingKept ≡ keptAfter q k
+  kept-if e = ap (λ t. cond t nothingKept k) (sym e)
+
+  pub kept-else : acceptedBy q ≡ false → k ≡ keptAfter q k
+  kept-else e = ap (λ t. cond t nothingKept k) (sym e)
+
+pub stored-with : (b : Book) (c : Call) (at : ℕ) (r : Settled) (k : Kept) → k ≡ keptAfter (r .reply) (b .kept) → Does b c (settledIn b at r)
+    → Does b c (record { reply = r .reply; months = r .months; book = withPlaces b (setPlace (b .places) (suc at) (r .place)) k })
+stored-with b c at r k e d =
+    subst (λ s. Does b c (record { reply = r .reply; months = r .months; book = withPlaces b (setPlace (b .places) (suc at) (r .place)) s })) (sym e) d

@@ -2,7 +2,7 @@
 -- Assumes nothing.
 use mathlib.Core.Path.{_≡_}
 use mathlib.Core.Bool.{Bool, true, false, cond}
-use mathlib.Core.List.{List, [], _∷_, map}
+use mathlib.Core.List.{List, [], _∷_, map, zipWith}
 use mathlib.Core.Option.{Option, none, some}
 use Prim.Native.Nat.{ℕ, zero, suc}
 use lib.ListN.{getD, set, replicate}
@@ -15,8 +15,10 @@ use Rattle.tariff.specs.Tariff.{tariffOf}
 use Rattle.book.specs.declared.State.{State}
 use Rattle.book.specs.declared.State.the-variants.{Empty, Draft, Open}
 use Rattle.book.specs.declared.Place.{Place}
+use Rattle.book.specs.declared.Stood.{Stood}
+use Rattle.book.specs.declared.Kept.{Kept}
 use Rattle.book.specs.declared.Book.{Book}
-use Rattle.book.specs.Calls.{Sheet, Act, SET, PUT, OPEN, CLOSE, DROP, Call, Answer, isAccepted}
+use Rattle.book.specs.Calls.{Sheet, sheetAt, Act, SET, PUT, OPEN, CLOSE, DROP, UNDO, Call, Answer, isAccepted}
 use Rattle.book.specs.Checks.{Holding, Readings, figuresOf, complies, answer}
 
 -- a place is a state beside the numbers of a tariff: one made of the two, and the tariff of one
@@ -43,9 +45,17 @@ empty = placeWith Empty (zeros (replicate 4 0) (replicate 14 0))
 abbrev pub noPeriod : Period
 noPeriod = record { year = 0; month = 0; months = 0 }
 
+-- nothing to take back: what is kept for UNDO has zeros
+abbrev pub stoodAs : State → Stood
+stoodAs s = record { state = s }
+
+abbrev pub nothingKept : Kept
+nothingKept =
+    record { any = false; loaded = false; fields = replicate fieldCount 0; period = noPeriod; states = replicate 32 (stoodAs Empty) }
+
 abbrev pub fresh : Book
 fresh =
-    record { loaded = false; fields = replicate fieldCount 0; period = noPeriod; benchmarks = noBenchmarks; places = replicate 32 empty }
+    record { loaded = false; fields = replicate fieldCount 0; period = noPeriod; benchmarks = noBenchmarks; places = replicate 32 empty; kept = nothingKept }
 
 -- code k is place k - 1; past the places stands what a read there gives
 abbrev pub beyond : Place
@@ -84,13 +94,15 @@ inForce b = sheetIf (b .loaded) (sheetIn b)
 
 -- what the checks of a call read of a book
 abbrev pub bookReadings : Book → Readings
-bookReadings b = record { sheet = inForce b; held = λ k. held (placeOf (b .places) k) }
+bookReadings b = record { sheet = inForce b; held = λ k. held (placeOf (b .places) k); mayUndo = b .kept .any }
 
-abbrev pub withPlaces : Book → List Place → Book
-withPlaces b ps = record { loaded = b .loaded; fields = b .fields; period = b .period; benchmarks = b .benchmarks; places = ps }
+abbrev pub withPlaces : Book → List Place → Kept → Book
+withPlaces b ps kept =
+    record { loaded = b .loaded; fields = b .fields; period = b .period; benchmarks = b .benchmarks; places = ps; kept = kept }
 
+-- one place changed: UNDO is "allowed only while no PUT, OPEN, CLOSE or DROP has been accepted since that SET"
 abbrev pub withPlace : Book → ℕ → Place → Book
-withPlace b k p = withPlaces b (setPlace (b .places) k p)
+withPlace b k p = withPlaces b (setPlace (b .places) k p) nothingKept
 
 -- SET: "each open tariff that exceeds somewhere becomes a draft, the others staying open"
 abbrev pub openIf : Bool → State
@@ -105,14 +117,30 @@ stateUnder f Open x = openIf (complies f x)
 abbrev pub under : Benchmarks → Place → Place
 under f p = withState (stateUnder f (p .state) (tariffIn p)) p
 
+-- "One step is kept": of the book before a SET its sheet, or none, and the state of each place. As long as UNDO is allowed no tariff
+-- changes, and the figures are those of the sheet
+abbrev pub keptOf : Book → Kept
+keptOf b =
+    record { any = true; loaded = b .loaded; fields = b .fields; period = b .period; states = map (λ p. stoodAs (p .state)) (b .places) }
+
+-- UNDO: "the book as it was before the last accepted SET" (stands/proofs/Undone.antt, `undone`), with nothing to take back
+abbrev pub figuresIf : Option Sheet → Benchmarks
+figuresIf none = noBenchmarks
+figuresIf (some s) = figuresOf s
+
+abbrev pub restored : Book → Book
+restored b =
+    record { loaded = b .kept .loaded; fields = b .kept .fields; period = b .kept .period; benchmarks = figuresIf (sheetIf (b .kept .loaded) (sheetAt (b .kept .fields) (b .kept .period))); places = zipWith (λ s. withState (s .state)) (b .kept .states) (b .places); kept = nothingKept }
+
 -- the book after an accepted call
 abbrev pub changed : Book → Act → Book
 changed b (SET s) =
-    record { loaded = true; fields = s .fields; period = s .period; benchmarks = figuresOf s; places = map (under (figuresOf s)) (b .places) }
+    record { loaded = true; fields = s .fields; period = s .period; benchmarks = figuresOf s; places = map (under (figuresOf s)) (b .places); kept = keptOf b }
 changed b (PUT k x) = withPlace b k (placeWith Draft (tariffOf x))
 changed b (OPEN k) = withPlace b k (withState Open (placeOf (b .places) k))
 changed b (CLOSE k) = withPlace b k (withState Draft (placeOf (b .places) k))
 changed b (DROP k) = withPlace b k empty
+changed b UNDO = restored b
 
 -- what a call comes to: its answer and the book after it. "Any call refused changes nothing."
 pub record Effect : Type 0 where

@@ -26,6 +26,7 @@ pub data Act : Type 0 where
   OPEN : ℕ → Act
   CLOSE : ℕ → Act
   DROP : ℕ → Act
+  UNDO : Act
 
 -- a call: an act; whose call it is makes no difference
 pub record Call : Type 0 where

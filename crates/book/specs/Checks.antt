@@ -1,4 +1,4 @@
--- The checks of SET, PUT, OPEN, CLOSE and DROP: a line a call, in document 01's order.
+-- The checks of SET, PUT, OPEN, CLOSE, DROP and UNDO: a line a call, in the order of documents 01 and 02.
 -- Assumes nothing.
 use mathlib.Core.Bool.{Bool, false, not, _&&_}
 use mathlib.Core.Option.{Option, none, some}
@@ -11,17 +11,19 @@ use Rattle.tariff.specs.declared.Tariff.{Tariff}
 use Rattle.tariff.specs.Tariff.{recordCheck}
 use Rattle.verdict.specs.Cells.{Verdict, opens, verdict, firstOver}
 use Rattle.verdict.specs.Cells as cells
-use Rattle.book.specs.Calls.{Sheet, Record, Act, SET, PUT, OPEN, CLOSE, DROP, Answer, accepted, opened, refused, over, isNone}
+use Rattle.book.specs.Calls.{Sheet, Record, Act, SET, PUT, OPEN, CLOSE, DROP, UNDO, Answer, accepted, opened, refused, over, isNone}
 
 -- what a place holds: a tariff, and whether it is open
 pub record Holding : Type 0 where
   pub tariff : Tariff
   pub isOpen : Bool
 
--- what the checks of a call look at: the sheet in force, and what the place of a code holds, or nothing
+-- what the checks of a call look at: the sheet in force, what the place of a code holds, or nothing, and whether there is a SET to
+-- take back
 pub record Readings : Type 0 where
   pub sheet : Option Sheet
   pub held : ℕ → Option Holding
+  pub mayUndo : Bool
 
 abbrev pub isOpen : Option Holding → Bool
 isOpen none = false
@@ -67,6 +69,10 @@ closeAnswer k held = need refused (inside k) 6 (given refused held 9 (λ h. need
 abbrev pub dropAnswer : ℕ → Option Holding → Answer
 dropAnswer k held = need refused (inside k) 6 (given refused held 9 (λ h. need refused (not (h .isOpen)) 7 accepted))
 
+-- UNDO. 15: nothing to take back
+abbrev pub undoAnswer : Bool → Answer
+undoAnswer mayUndo = need refused mayUndo 15 accepted
+
 -- the answer that the checks of a call give for such readings
 abbrev pub answer : Readings → Act → Answer
 answer r (SET s) = setAnswer s
@@ -74,3 +80,4 @@ answer r (PUT k x) = putAnswer k (r .held k) x
 answer r (OPEN k) = openAnswer k (r .held k) (r .sheet)
 answer r (CLOSE k) = closeAnswer k (r .held k)
 answer r (DROP k) = dropAnswer k (r .held k)
+answer r UNDO = undoAnswer (r .mayUndo)

@@ -13,12 +13,13 @@ use Rattle.book.specs.declared.State.the-variants.{Empty, Draft, Open}
 use Rattle.book.specs.declared.Reply.{Reply}
 use Rattle.book.specs.declared.Reply.the-variants as reply
 use Rattle.book.specs.declared.Place.{Place}
+use Rattle.book.specs.declared.Kept.{Kept}
 use Rattle.book.specs.declared.Settled.{Settled}
 use Rattle.book.specs.declared.Done.{Done}
 use Rattle.book.specs.declared.Book.{Book}
 use Rattle.book.specs.Calls.{Answer, refused, isAccepted}
 use Rattle.book.specs.Checks.{inside}
-use Rattle.book.specs.Book.{beyond, withPlace, Reachable}
+use Rattle.book.specs.Book.{nothingKept, beyond, setPlace, withPlaces, Reachable}
 use Rattle.book.specs.Promises.{answerOf, NoughtPast}
 
 -- 6: code outside 1 to 32
@@ -66,9 +67,22 @@ settledBy check before after = record { reply = replyOf check; months = replicat
 abbrev pub doneBy : Check → Book → Done
 doneBy check b = record { reply = replyOf check; months = replicate 12 0; book = b }
 
+-- what is kept for UNDO after a call on a code: an accepted one ends the chance, and "any call refused changes nothing"
+abbrev pub acceptedBy : Reply → Bool
+acceptedBy reply.Accepted = true
+acceptedBy (reply.Opened cells) = true
+acceptedBy (reply.Refused number) = false
+acceptedBy (reply.Over region method t excess) = false
+
+abbrev pub keptAfter : Reply → Kept → Kept
+keptAfter q k = cond (acceptedBy q) nothingKept k
+
 -- handed on: the book with the place after the call at its index
+abbrev pub storedIn : Book → ℕ → Place → Reply → Book
+storedIn b at p q = withPlaces b (setPlace (b .places) (suc at) p) (keptAfter q (b .kept))
+
 abbrev pub settledIn : Book → ℕ → Settled → Done
-settledIn b at r = record { reply = r .reply; months = r .months; book = withPlace b (suc at) (r .place) }
+settledIn b at r = record { reply = r .reply; months = r .months; book = storedIn b at (r .place) (r .reply) }
 
 -- What a call on one place comes to: the answer behind its checks, and the place as it was or, where the call is accepted, as it leaves it
 pub record Settles (check : Check) (next : Answer) (before after : Place) (r : Settled) : Type 0 where

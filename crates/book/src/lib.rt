@@ -3,13 +3,13 @@
 // What the layer above may use: the types, the checks, `settled_by` and `answered`; proofs/Steps.antt, which turns what a call's checks came
 // to into `Does`; and proofs/Reached.antt, lists of calls. The book goes into a call by value and comes back.
 ghost use mathlib.Core.Path.{_≡_};
-ghost use mathlib.Core.Bool.{true};
+ghost use mathlib.Core.Bool.{true, _&&_};
 ghost use Prim.Native.Nat.{suc, _<_};
 ghost use Rattle.refusal.specs.declared.Check.the-variants.{Pass};
 ghost use Rattle.refusal.specs.Checks.{unless};
 ghost use Rattle.book.specs.Checks.{inside};
-ghost use Rattle.book.specs.Settling.{codeCheck, emptyCheck, openCheck, closedCheck, heldCheck, replyOf, settledBy, doneBy};
-ghost use Rattle.book.specs.Book.{empty, fresh, placeWith, tariffIn, withState};
+ghost use Rattle.book.specs.Settling.{codeCheck, emptyCheck, openCheck, closedCheck, heldCheck, replyOf, settledBy, doneBy, acceptedBy};
+ghost use Rattle.book.specs.Book.{empty, fresh, nothingKept, placeWith, tariffIn, withState};
 use benchmark::Benchmarks;
 use calendar::Period;
 use refusal::Check;
@@ -36,13 +36,28 @@ pub struct Place {
     pub regional: [u32; 14],
 }
 
-// 32 places; a sheet with its period, or none; and what they come to.
+// The state that a place had.
+pub struct Stood {
+    pub state: State,
+}
+
+// What UNDO takes back, if there is any: the sheet before, with its period, or none, and the state of each place. Else zeros.
+pub struct Kept {
+    pub any: bool,
+    pub loaded: bool,
+    pub fields: [u32; FIELD_COUNT],
+    pub period: Period,
+    pub states: [Stood; 32],
+}
+
+// 32 places; a sheet with its period, or none; what they come to; and what is kept for UNDO.
 pub struct Book {
     pub loaded: bool,
     pub fields: [u32; FIELD_COUNT],
     pub period: Period,
     pub benchmarks: Benchmarks,
     pub places: [Place; 32],
+    pub kept: Kept,
 }
 
 // An answer: accepted; opened, with the number of cells; refused, with its number; or refused by 11, with region, method, the
@@ -131,6 +146,25 @@ pub fn empty_place() -> Place
     }
 }
 
+// Nothing to take back.
+pub fn nothing_kept() -> Kept
+    ensures { λ r. ⌜ r ≡ nothingKept ⌝ }
+{
+    Kept {
+        any: false,
+        loaded: false,
+        fields: [0; FIELD_COUNT],
+        period: Period {
+            year: 0,
+            month: 0,
+            months: 0,
+        },
+        states: [Stood {
+            state: State::Empty,
+        }; 32],
+    }
+}
+
 // A fresh book has no sheet and all places empty.
 pub fn fresh_book() -> Book
     ensures { λ r. ⌜ r ≡ fresh ⌝ }
@@ -151,6 +185,7 @@ pub fn fresh_book() -> Book
             days: 0,
         },
         places: [empty_place(); 32],
+        kept: nothing_kept(),
     }
 }
 
@@ -260,6 +295,28 @@ pub fn settled_by(check: Check, before: Place, after: Place) -> Settled
         months: [0; 12],
         place: after,
     }
+}
+
+// Whether a call with this answer was accepted: on a code, it leaves nothing to take back.
+pub fn accepted_by(reply: Reply) -> bool
+    ensures { λ r. ⌜ r ≡ acceptedBy reply ⌝ }
+{
+    match reply {
+        Reply::Accepted => true,
+        Reply::Opened(_) => true,
+        Reply::Refused(_) => false,
+        Reply::Over(_, _, _, _) => false,
+    }
+}
+
+// Whether it takes away what there is to take back.
+pub fn ends_undo(reply: Reply, any: bool) -> bool
+    ensures { λ r. ⌜ r ≡ (any && acceptedBy reply) ⌝ }
+{
+    if any {
+        return accepted_by(reply);
+    }
+    false
 }
 
 // That answer with a book.

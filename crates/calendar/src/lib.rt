@@ -1032,5 +1032,6 @@ pub fn days(p: Period) -> u32
 {
     let first = (12 * (p.year - 2018) + (p.month - 1)) as usize;
     let end = first + p.months as usize;
-    BEGINS[end] - BEGINS[first]
+    let begins = BEGINS;
+    begins[end] - begins[first]
 }

@@ -6,7 +6,7 @@
 // book that has the place (`HasPlace` of the book's definitions).
 ghost use mathlib.Core.Path.{_≡_};
 ghost use mathlib.Core.Bool.{Bool, true};
-ghost use Prim.Native.Nat.{ℕ};
+ghost use Prim.Native.Nat.{ℕ, _<_};
 ghost use Rattle.benchmark.specs.declared.Benchmarks.{Benchmarks};
 ghost use Rattle.benchmark.specs.Lawful.{Lawful};
 ghost use Rattle.tariff.specs.Tariff.{tariffOf};
@@ -94,25 +94,35 @@ pub fn settle(act: CodeAct, code: u32, p: Place, loaded: bool, figures: Benchmar
     }
 }
 
+// What a call on a code came to, with the book: its place stored, and nothing left to take back where it was accepted.
+fn stored(b: Book, at: usize, settled: Settled) -> Done
+    requires { ⌜ at < 32 ⌝ }
+    ensures { λ r. ⌜ r ≡ settledIn b at settled ⌝ }
+{
+    let mut next = b;
+    let reply = settled.reply;
+    let months = settled.months;
+    let place = settled.place;
+    next.places[at] = place;
+    if book::accepted_by(reply) {
+        next.kept = book::nothing_kept();
+    }
+    Done {
+        reply,
+        months,
+        book: next,
+    }
+}
+
 // OPEN, CLOSE or DROP: the place of the code is read, settled and stored again.
 pub fn act_on(b: Book, code: u32, act: CodeAct) -> Done
     requires { ⌜ Handed act b ⌝ }
     ensures { λ r. ⌜ Does b (call (actOn act code)) r ⌝ }
 {
     let at = book::index_of(code);
-    let mut next = b;
-    let p = next.places[at];
-    let figures = next.benchmarks;
-    let settled = settle(act, code, p, next.loaded, figures);
-    let reply = settled.reply;
-    let months = settled.months;
-    let place = settled.place;
-    next.places[at] = place;
-    Done {
-        reply,
-        months,
-        book: next,
-    }
+    let p = b.places[at];
+    let figures = b.benchmarks;
+    stored(b, at, settle(act, code, p, b.loaded, figures))
 }
 
 // PUT (code, tariff). 6, 7, 8. Else the place holds it as a draft, over any draft. The same of its place, and of every book that has it there.
@@ -134,16 +144,6 @@ pub fn put(b: Book, code: u32, x: &[u32]) -> Done
     ensures { λ r. ⌜ Does b (call (PUT code (now (x .entry)))) r ⌝ }
 {
     let at = book::index_of(code);
-    let mut next = b;
-    let p = next.places[at];
-    let settled = put_at(code, p, x);
-    let reply = settled.reply;
-    let months = settled.months;
-    let place = settled.place;
-    next.places[at] = place;
-    Done {
-        reply,
-        months,
-        book: next,
-    }
+    let p = b.places[at];
+    stored(b, at, put_at(code, p, x))
 }

@@ -4,13 +4,17 @@ use mathlib.Core.Path.{_≡_, refl}
 use Rattle.texts.specs.Texts.{bytesOf, digitsWithin, decimal}
 use Rattle.request.specs.declared.CodeStep.the-variants.{Put, Open}
 use Rattle.request.specs.declared.Query.the-variants.{Benchmark}
-use Rattle.request.specs.declared.Word.the-variants.{Set, On, Tells}
+use Rattle.request.specs.declared.Word.the-variants.{Set, Undo, On, Tells}
 use Rattle.request.specs.declared.Request.the-variants.{NotANumber, WrongCount}
 use Rattle.errors.specs.Errors.{problemText}
 
 set : problemText 12 (WrongCount Set) ≡ bytesOf "error line 12: set takes at least 3 numbers\n"
 unfolding decimal digitsWithin
 set = refl
+
+none : problemText 12 (WrongCount Undo) ≡ bytesOf "error line 12: undo takes no number\n"
+unfolding decimal digitsWithin
+none = refl
 
 put : problemText 12 (WrongCount (On Put)) ≡ bytesOf "error line 12: put takes at least 1 number\n"
 unfolding decimal digitsWithin

@@ -26,7 +26,7 @@ abbrev pub countText : List ℕ → ℕ → List ℕ
 countText text n = text ++ decimal n ++ cond (eqb n 1) (bytesOf " number\n") (bytesOf " numbers\n")
 
 abbrev pub arityText : Arity → List ℕ
-arityText (Exactly n) = countText (bytesOf " takes ") n
+arityText (Exactly n) = cond (eqb n 0) (bytesOf " takes no number\n") (countText (bytesOf " takes ") n)
 arityText (AtLeast n) = countText (bytesOf " takes at least ") n
 
 -- what is answered, at line l, to a line that is no call

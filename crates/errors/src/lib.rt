@@ -54,13 +54,18 @@ fn put_count(out: &mut [u8], at: usize, text: &[u8], n: usize) -> usize
     texts::put_numbered(out, at, text, n as u64, b" numbers\n")
 }
 
-// takes N numbers, or at least N
+// takes N numbers, or none, or at least N
 fn put_arity(out: &mut [u8], at: usize, arity: Arity) -> usize
     requires { ⌜ at + 45 ≤ length (now out) ⌝ }
     ensures { λ r. ⌜ Puts (now (out .entry)) at (arityText arity) r (now (out .exit)) ⌝ }
 {
     match arity {
-        Arity::Exactly(n) => put_count(out, at, b" takes ", n),
+        Arity::Exactly(n) => {
+            if n == 0 {
+                return texts::put_text(out, at, b" takes no number\n");
+            }
+            put_count(out, at, b" takes ", n)
+        }
         Arity::AtLeast(n) => put_count(out, at, b" takes at least ", n),
     }
 }

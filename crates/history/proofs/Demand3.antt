@@ -7,7 +7,7 @@ use mathlib.Core.Option.{Option, none, some}
 use Prim.Native.Nat.{ℕ}
 use lib.Dec.{eqb}
 use lib.IntN.{pos}
-use lib.ListN.{length, getElem?}
+use lib.ListN.{length, getElem?, drop}
 use lib.Signed.{_≤ℤ_}
 use borrow.Author.Tests.{eqb-true}
 use Rattle.laws.proofs.Never.{never}
@@ -19,26 +19,27 @@ use Rattle.book.specs.declared.State.{State}
 use Rattle.book.specs.declared.State.the-variants.{Empty, Draft, Open}
 use Rattle.book.specs.declared.Place.{Place}
 use Rattle.book.specs.declared.Book.{Book}
-use Rattle.book.specs.Calls.{Sheet, Act, SET, PUT, OPEN, CLOSE, DROP, Call, call, isAccepted}
-use Rattle.book.specs.Checks.{Holding, Readings, figuresOf, complies, inside, answer}
-use Rattle.book.specs.Book.{empty, placeWith, tariffIn, withState, fresh, placeOf, holding, heldIn, held, inForce, bookReadings, withPlace, openIf, stateUnder, changed, after, step, bookAfter, answersOf, Reachable}
+use Rattle.book.specs.Calls.{Sheet, Act, SET, PUT, OPEN, CLOSE, DROP, UNDO, Call, call, accepted, isAccepted}
+use Rattle.book.specs.Checks.{Holding, Readings, figuresOf, complies, inside, setAnswer, answer}
+use Rattle.book.specs.Book.{empty, placeWith, tariffIn, withState, fresh, placeOf, holding, heldIn, held, inForce, bookReadings, withPlace, openIf, stateUnder, restored, changed, after, step, bookAfter, answersOf, Reachable}
 use Rattle.book.proofs.Places.{code-range, at-set, at-map, fresh-place, held-inside}
-use Rattle.book.proofs.Accepted.{put-accepted, close-accepted, drop-accepted, open-accepted}
+use Rattle.book.proofs.Accepted.{need-accepted, put-accepted, close-accepted, drop-accepted, open-accepted}
 use Rattle.book.proofs.Reached.{fresh-reachable, step-reachable}
 use Rattle.stands.specs.Stands.{MayOpen}
-use Rattle.stands.proofs.Kept.{held-fits, reachable-stands}
+use Rattle.stands.proofs.Undone.{undone}
+use Rattle.stands.proofs.Kept.{held-fits, reachable-fits}
 use Rattle.stands.proofs.InForce.{recorded-valid}
-use Rattle.history.specs.History.{sheetOf, tariffAt, openOf, staysOpen, heldAs, readings, noted, logAfter, acceptedOf, answersAfter}
+use Rattle.history.specs.History.{sheetOf, tariffAt, openOf, staysOpen, effective, undoable, heldAs, readingsOf, readings, noted, logAfter, acceptedOf, answersAfter}
 use Rattle.history.specs.Claim.{MonthsOf, excessIn, OpenAnswer, Demand3}
 use Rattle.history.proofs.OpenAnswers.{nowhere-above, open-answer}
 use Rattle.history.proofs.TrialAnswers.{tariffed, trial-answer}
 
-same-readings : (r q : Readings) → r .sheet ≡ q .sheet → ((k : ℕ) → r .held k ≡ q .held k) → r ≡ q
-same-readings r q s h = λ i. record { sheet = s i; held = λ k. h k i }
+same-readings : (r q : Readings) → r .sheet ≡ q .sheet → ((k : ℕ) → r .held k ≡ q .held k) → r .mayUndo ≡ q .mayUndo → r ≡ q
+same-readings r q s h u = λ i. record { sheet = s i; held = λ k. h k i; mayUndo = u i }
 
 -- a reading of code k written at code k is the reading
-kept : {A : Type 0} (g : ℕ → A) (k j : ℕ) → cond (eqb k j) (g k) (g j) ≡ g j
-kept g k j = go (eqb k j) refl
+rewritten : {A : Type 0} (g : ℕ → A) (k j : ℕ) → cond (eqb k j) (g k) (g j) ≡ g j
+rewritten g k j = go (eqb k j) refl
   where
     go : (t : Bool) → eqb k j ≡ t → cond t (g k) (g j) ≡ g j
     go true e = ap g (eqb-true k j e)
@@ -76,69 +77,95 @@ log-judged : (s : Sheet) (t : Option Tariff) (o : Bool) → judgedBy (figuresOf 
 log-judged s none o = refl
 log-judged s (some x) o = refl
 
--- one call, on a book of which the checks read what they read from the log
-module _ (log : List Act) (b : Book) (from : Reachable b) (same : bookReadings b ≡ readings log) where
-  held-is : (k : ℕ) → held (placeOf (b .places) k) ≡ heldAs (tariffAt log k) (openOf log k)
-  held-is k = ap (λ r. r .held k) same
+-- the checks read of a book what they read from the log; and where there is a SET to take back, of the book that UNDO leaves what they read
+-- from the log without it
+abbrev Reads : Book → List Act → Type 0
+Reads b log =
+    (bookReadings b ≡ readings log)
+    × (undoable log ≡ true → bookReadings (restored b) ≡ readingsOf (drop 1 (effective log)) false)
 
-  -- one place set
+-- one call, on such a book
+module _ (log : List Act) (b : Book) (from : Reachable b) (same : Reads b log) where
+  held-is : (k : ℕ) → held (placeOf (b .places) k) ≡ heldAs (tariffAt (effective log) k) (openOf (effective log) k)
+  held-is k = ap (λ r. r .held k) (same .0)
+
+  -- one place set, which leaves nothing to take back
   place-set : (k : ℕ) (p : Place) (t : Option Tariff) (o : Bool) (tariffs : ℕ → Option Tariff) → inside k ≡ true → held p ≡ heldAs t o
-      → ((j : ℕ) → cond (eqb k j) t (tariffAt log j) ≡ tariffs j)
-      → bookReadings (withPlace b k p) ≡ record { sheet = sheetOf log; held = λ j. heldAs (tariffs j) (cond (eqb k j) o (openOf log j)) }
+      → ((j : ℕ) → cond (eqb k j) t (tariffAt (effective log) j) ≡ tariffs j)
+      → bookReadings (withPlace b k p) ≡ record { sheet = sheetOf (effective log); held = λ j. heldAs (tariffs j) (cond (eqb k j) o (openOf (effective log) j)); mayUndo = false }
   place-set k p t o tariffs i h e =
-      same-readings _ _ (ap (λ r. r .sheet) same)
+      same-readings _ _ (ap (λ r. r .sheet) (same .0))
       (λ j.
-      at-set held (b .places) p (reachable-stands b from .size) k j (code-range k i)
+      at-set held (b .places) p (reachable-fits b from .size) k j (code-range k i)
       ∙ ap₂ (cond (eqb k j)) h (held-is j)
-      ∙ cond-held (eqb k j) t (tariffAt log j) o (openOf log j)
-      ∙ ap (λ u. heldAs u (cond (eqb k j) o (openOf log j))) (e j))
+      ∙ cond-held (eqb k j) t (tariffAt (effective log) j) o (openOf (effective log) j)
+      ∙ ap (λ u. heldAs u (cond (eqb k j) o (openOf (effective log) j))) (e j))
+      refl
 
   -- an accepted call
-  changed-reads : (a : Act) → isAccepted (answer (bookReadings b) a) ≡ true → bookReadings (changed b a) ≡ readings (a ∷ log)
-  changed-reads (SET s) e =
-      same-readings _ _ refl
-      (λ k.
-      let p = placeOf (b .places) k in
-      ap held (at-map (figuresOf s) (b .places) k)
-      ∙ place-judged (figuresOf s) (p .state) (tariffIn p)
-      ∙ ap (judgedBy (figuresOf s)) (held-is k)
-      ∙ log-judged s (tariffAt log k) (openOf log k))
-  changed-reads (PUT k x) e =
-      place-set k (placeWith Draft (tariffOf x)) (some (tariffOf x)) false _ (put-accepted k (held (placeOf (b .places) k)) x e .0) refl (λ j. refl)
+  changed-reads : (a : Act) → isAccepted (answer (bookReadings b) a) ≡ true → Reads (changed b a) (a ∷ log)
+  changed-reads (SET s) e = (
+    same-readings _ _ refl
+        (λ k.
+        let p = placeOf (b .places) k in
+        ap held (at-map (figuresOf s) (b .places) k)
+        ∙ place-judged (figuresOf s) (p .state) (tariffIn p)
+        ∙ ap (judgedBy (figuresOf s)) (held-is k)
+        ∙ log-judged s (tariffAt (effective log) k) (openOf (effective log) k))
+        refl,
+    λ q. ap bookReadings (undone b (reachable-fits b from) s) ∙ same-readings _ _ (ap (λ r. r .sheet) (same .0)) held-is refl,
+  )
+  changed-reads (PUT k x) e = (
+    place-set k (placeWith Draft (tariffOf x)) (some (tariffOf x)) false _ (put-accepted k (held (placeOf (b .places) k)) x e .0) refl (λ j. refl),
+    λ q. never (cc),
+  )
   changed-reads (OPEN k) e =
       let p = placeOf (b .places) k in
-      let f = open-accepted k (held p) (inForce b) e in
-      place-set k (withState Open p) (tariffAt log k) true _ (f .code)
-      (reheld (p .state) (tariffIn p) (f .h) (tariffAt log k) (openOf log k) true (f .its) (held-is k)) (kept (tariffAt log) k)
+      let l = effective log in
+      let f = open-accepted k (held p) (inForce b) e in (
+        place-set k (withState Open p) (tariffAt l k) true _ (f .code)
+            (reheld (p .state) (tariffIn p) (f .h) (tariffAt l k) (openOf l k) true (f .its) (held-is k)) (rewritten (tariffAt l) k),
+        λ q. never (cc),
+      )
   changed-reads (CLOSE k) e =
       let p = placeOf (b .places) k in
-      let f = close-accepted k (held p) e in
-      place-set k (withState Draft p) (tariffAt log k) false _ (f .0)
-      (reheld (p .state) (tariffIn p) (f .1) (tariffAt log k) (openOf log k) false (f .2) (held-is k)) (kept (tariffAt log) k)
-  changed-reads (DROP k) e = place-set k empty none false _ (drop-accepted k (held (placeOf (b .places) k)) e) refl (λ j. refl)
+      let l = effective log in
+      let f = close-accepted k (held p) e in (
+        place-set k (withState Draft p) (tariffAt l k) false _ (f .0)
+            (reheld (p .state) (tariffIn p) (f .1) (tariffAt l k) (openOf l k) false (f .2) (held-is k)) (rewritten (tariffAt l) k),
+        λ q. never (cc),
+      )
+  changed-reads (DROP k) e = (
+    place-set k empty none false _ (drop-accepted k (held (placeOf (b .places) k)) e) refl (λ j. refl),
+    λ q. never (cc),
+  )
+  changed-reads UNDO e = (
+    same .1 (sym (ap (λ r. r .mayUndo) (same .0)) ∙ need-accepted (b .kept .any) 15 accepted e .0),
+    λ q. never (cc),
+  )
 
   -- a call, accepted or not
-  step-reads : (c : Call) → bookReadings (step b c .book) ≡ readings (noted log c)
+  step-reads : (c : Call) → Reads (step b c .book) (noted log c)
   unfolding step
   step-reads c =
-      subst (λ r. bookReadings (step b c .book) ≡ readings (cond (isAccepted (answer r (c .act))) (c .act ∷ log) log)) same
+      subst (λ r. Reads (step b c .book) (cond (isAccepted (answer r (c .act))) (c .act ∷ log) log)) (same .0)
       (go (isAccepted (answer (bookReadings b) (c .act))) refl)
     where
-      go : (t : Bool) → isAccepted (answer (bookReadings b) (c .act)) ≡ t → bookReadings (cond t (changed b (c .act)) b) ≡ readings (cond t (c .act ∷ log) log)
+      go : (t : Bool) → isAccepted (answer (bookReadings b) (c .act)) ≡ t → Reads (cond t (changed b (c .act)) b) (cond t (c .act ∷ log) log)
       go true e = changed-reads (c .act) e
       go false e = same
 
 -- a list of calls
-all-steps : (cs : List Call) (log : List Act) (b : Book) → Reachable b → bookReadings b ≡ readings log
-    → (answersOf b cs ≡ answersAfter log cs) × (bookReadings (bookAfter b cs) ≡ readings (logAfter log cs))
+all-steps : (cs : List Call) (log : List Act) (b : Book) → Reachable b → Reads b log
+    → (answersOf b cs ≡ answersAfter log cs) × Reads (bookAfter b cs) (logAfter log cs)
 unfolding step answersOf answersAfter logAfter bookAfter
 all-steps [] log b from same = (refl, same)
 all-steps (c ∷ cs) log b from same =
     let r = all-steps cs (noted log c) (step b c .book) (step-reachable from c) (step-reads log b from same c) in
-    (ap₂ _∷_ (ap (λ r. answer r (c .act)) same) (r .0), r .1)
+    (ap₂ _∷_ (ap (λ r. answer r (c .act)) (same .0)) (r .0), r .1)
 
-at-start : bookReadings fresh ≡ readings []
-at-start = same-readings _ _ refl (λ k. fresh-place held refl k)
+at-start : Reads fresh []
+at-start = (same-readings _ _ refl (λ k. fresh-place held refl k) refl, λ q. never (cc))
 
 -- an open code, by what is held
 open-held : (t : Option Tariff) (o : Bool) (x : Tariff) → heldAs t o ≡ some (holding x true) → (o ≡ true) × (t ≡ some x)
@@ -162,6 +189,9 @@ answer-at (d ∷ before) after c log = answer-at before after c (noted log d)
 
 -- after any list of calls
 module _ (calls : List Call) where
+  abbrev raw : List Act
+  raw = logAfter [] calls
+
   abbrev log : List Act
   log = acceptedOf calls
 
@@ -171,8 +201,11 @@ module _ (calls : List Call) where
   all-answers : answersOf fresh calls ≡ answersAfter [] calls
   all-answers = all-steps calls [] fresh fresh-reachable at-start .0
 
-  same : bookReadings b ≡ readings log
-  same = all-steps calls [] fresh fresh-reachable at-start .1
+  reads : Reads b raw
+  reads = all-steps calls [] fresh fresh-reachable at-start .1
+
+  same : bookReadings b ≡ readings raw
+  same = reads .0
 
   reached : Reachable b
   reached = record { calls = calls; left = refl }
@@ -185,7 +218,7 @@ module _ (calls : List Call) where
       → (inside k ≡ true) × (validTariff x ≡ true) × (o ≡ true → MayOpen (inForce b) x)
   fits-at k x o e =
       let p = placeOf (b .places) k in
-      let w = reachable-stands b reached in
+      let w = reachable-fits b reached in
       let i = held-inside (b .places) k (holding x o) (w .size) e in
       let f = held-fits (inForce b) (p .state) p (w .places k i) (holding x o) e in
       (i, sym (ap validTariff (f .1)) ∙ recorded-valid (tariffIn p) (f .0), λ q. subst (MayOpen (inForce b)) (f .1) (f .2 q))
@@ -197,8 +230,12 @@ module _ (calls : List Call) where
       (f .0, f .1)
 
   -- the answer that is read for an OPEN
-  read-open : (c : Call) (k : ℕ) → c .act ≡ OPEN k → OpenAnswer log k (answer (readings log) (c .act))
-  read-open c k e = subst (λ a. OpenAnswer log k (answer (readings log) a)) (sym e) (open-answer log k (known k))
+  read-open : (c : Call) (k : ℕ) → c .act ≡ OPEN k → OpenAnswer log k (answer (readings raw) (c .act))
+  read-open c k e = subst (λ a. OpenAnswer log k (answer (readings raw) a)) (sym e) (open-answer log (undoable raw) k (known k))
+
+  -- what is read after a SET
+  read-set : (s : Sheet) → isAccepted (setAnswer s) ≡ true → bookReadings (step b (call (SET s)) .book) ≡ readingsOf (SET s ∷ log) true
+  read-set s e = step-reads raw b reached reads (call (SET s)) .0 ∙ ap (λ t. readings (cond t (SET s ∷ raw) raw)) e
 
 -- the theorem
 pub demand3 : (calls : List Call) → Demand3 calls (answersOf fresh calls) (bookAfter fresh calls)
@@ -211,12 +248,12 @@ demand3 calls =
           let w = within-cap (inForce (b calls)) x (fits-at calls k x true e .2 refl) in
           (w .0, sym (ap (λ r. r .sheet) (same calls)) ∙ w .1, w .2);
       each-open = λ before after c k e a. (
-        answer (readings (log before)) (c .act),
+        answer (readings (raw before)) (c .act),
         ap (λ l. getElem? l (length before)) (all-answers calls ∙ ap (answersAfter []) e) ∙ answer-at before after c [],
         read-open before c k a,
       );
       next-open = λ c k a. subst (OpenAnswer (log calls) k) (ap (λ r. answer r (c .act)) (sym (same calls))) (read-open calls c k a);
       next-trial = λ s.
-          trial-answer (log calls) (b calls) s (same calls) (step-reads (log calls) (b calls) (reached calls) (same calls) (call (SET s)))
-          (tariffed calls [] (λ k e. never (cc))) (λ k x e. known calls k x e .0);
+          trial-answer (log calls) (undoable (raw calls)) (b calls) s (same calls) (read-set calls s)
+          (tariffed calls [] (λ k e. never (cc), λ q. never (cc)) .0) (λ k x e. known calls k x e .0);
     }

@@ -24,7 +24,7 @@ use Rattle.verdict.proofs.Meaning.{none-exceeds, first-exceeds}
 use Rattle.verdict.proofs.Count.{cells-counted}
 use Rattle.book.specs.Calls.{Sheet, Act, OPEN, opened, refused, isNone}
 use Rattle.book.specs.Checks.{figuresOf, complies, inside, verdictAnswer, answer}
-use Rattle.history.specs.History.{sheetOf, tariffAt, openOf, readings}
+use Rattle.history.specs.History.{sheetOf, tariffAt, openOf, readingsOf}
 use Rattle.history.specs.Claim.{numbersWith, excessIn, MonthsOf, ExceedsSomewhere, Shows, DraftWhere, cellsOffered, OpenAnswer}
 
 -- where a tariff does not exceed, no months are above the maximum
@@ -85,7 +85,7 @@ same-count : {n m : ℕ} → opened n ≡ opened m → n ≡ m
 same-count e = cc
 
 -- the answer to an OPEN of code k, where a code with a tariff is one of the 32 and its tariff is valid
-module _ (log : List Act) (k : ℕ) (known : (x : Tariff) → tariffAt log k ≡ some x → (inside k ≡ true) × (validTariff x ≡ true)) where
+module _ (log : List Act) (u : Bool) (k : ℕ) (known : (x : Tariff) → tariffAt log k ≡ some x → (inside k ≡ true) × (validTariff x ≡ true)) where
   -- no draft under a sheet: a refusal before 11
   earlier : (n : ℕ) → n < 11 → (DraftWhere log k (λ s x. Unit {0}) → ⊥) → OpenAnswer log k (refused n)
   earlier n l none-is =
@@ -126,12 +126,12 @@ module _ (log : List Act) (k : ℕ) (known : (x : Tariff) → tariffAt log k ≡
           );
         }
 
-  pub open-answer : OpenAnswer log k (answer (readings log) (OPEN k))
+  pub open-answer : OpenAnswer log k (answer (readingsOf log u) (OPEN k))
   unfolding verdict
   open-answer = go (inside k) (tariffAt log k) (openOf log k) (sheetOf log) refl refl refl refl
     where
       go : (i : Bool) (t : Option Tariff) (o : Bool) (f : Option Sheet)
-          → inside k ≡ i → tariffAt log k ≡ t → openOf log k ≡ o → sheetOf log ≡ f → OpenAnswer log k (answer (readings log) (OPEN k))
+          → inside k ≡ i → tariffAt log k ≡ t → openOf log k ≡ o → sheetOf log ≡ f → OpenAnswer log k (answer (readingsOf log u) (OPEN k))
       go false t o f ei et eo ef = rw ei (earlier 6 (omega arith) (λ d. let e = known (d .1) (d .3) .0 in never (cc)))
       go true none o f ei et eo ef = rw (ei, et) (earlier 9 (omega arith) (λ d. let e = d .3 in never (cc)))
       go true (some x) true f ei et eo ef = rw (ei, et, eo) (earlier 7 (omega arith) (λ d. let e = d .4 in never (cc)))

@@ -9,6 +9,7 @@ use Prim.Native.Nat.{ℕ, suc, _<_}
 use native.Mathlib.Decide.{decLt}
 use native.Mathlib.Omega.{arith}
 use lib.Dec.{eqb}
+use lib.ListN.{drop}
 use borrow.Author.Tests.{eqb-true}
 use Rattle.laws.specs.Notions.{bit, setOf}
 use Rattle.laws.proofs.Every.{and-left}
@@ -16,15 +17,15 @@ use Rattle.laws.proofs.Never.{never}
 use Rattle.laws.proofs.Sets.{bit-of-set, bit-past-set}
 use Rattle.tariff.specs.declared.Tariff.{Tariff}
 use Rattle.book.specs.declared.Book.{Book}
-use Rattle.book.specs.Calls.{Sheet, Act, SET, PUT, OPEN, CLOSE, DROP, Call, call, refusalNumber, isAccepted}
-use Rattle.book.specs.Checks.{Holding, isOpen, inside, answer}
+use Rattle.book.specs.Calls.{Sheet, Act, SET, PUT, OPEN, CLOSE, DROP, UNDO, Call, call, accepted, refusalNumber, isAccepted}
+use Rattle.book.specs.Checks.{Holding, isOpen, inside, setAnswer, answer}
 use Rattle.book.specs.Book.{bookReadings, step}
 use Rattle.book.proofs.Places.{code-range}
-use Rattle.book.proofs.Accepted.{open-accepted}
+use Rattle.book.proofs.Accepted.{need-accepted, open-accepted}
 use Rattle.stands.proofs.Kept.{none-of}
 use Rattle.queries.specs.Queries.{refused, falling}
 use Rattle.trial.specs.Trial.{isDraft, falls, codesWhere, toldUnless, trialOf}
-use Rattle.history.specs.History.{sheetOf, tariffAt, openOf, staysOpen, heldAs, readings, noted, logAfter}
+use Rattle.history.specs.History.{sheetOf, tariffAt, openOf, staysOpen, effective, undoable, heldAs, readingsOf, readings, noted, logAfter}
 use Rattle.history.specs.Claim.{WouldFall, TrialAnswer}
 
 -- an open code has a tariff
@@ -35,13 +36,13 @@ held-tariff : (t : Option Tariff) (o : Bool) (h : Holding) → heldAs t o ≡ so
 held-tariff none o h e = never (cc)
 held-tariff (some x) o h e = (x, refl)
 
-module _ (log : List Act) (has : Tariffed log) where
+module _ (log : List Act) (u : Bool) (has : Tariffed log) where
   -- after a call that leaves code k not open where c holds
   not-open : (k : ℕ) (t : Option Tariff) (c : Bool) → cond c false (openOf log k) ≡ true → (x : Tariff) × (cond c t (tariffAt log k) ≡ some x)
   not-open k t true e = never (cc)
   not-open k t false e = has k e
 
-  tariffed-act : (a : Act) → isAccepted (answer (readings log) a) ≡ true → Tariffed (a ∷ log)
+  tariffed-act : (a : Act) → isAccepted (answer (readingsOf log u) a) ≡ true → Tariffed (a ∷ log)
   tariffed-act (SET s) e k o = has k (and-left (openOf log k) (staysOpen s (tariffAt log k)) o)
   tariffed-act (PUT j x) e k o = not-open k _ (eqb j k) o
   tariffed-act (OPEN j) e k o = go (eqb j k) refl o
@@ -57,15 +58,29 @@ module _ (log : List Act) (has : Tariffed log) where
       closed true o = never (cc)
       closed false o = has k o
   tariffed-act (DROP j) e k o = not-open k none (eqb j k) o
+  tariffed-act UNDO e k o = has k o
 
-  tariffed-noted : (c : Call) → Tariffed (noted log c)
+-- so it is now, and where there is a SET to take back, without it
+abbrev pub TariffedBack : List Act → Type 0
+TariffedBack log = Tariffed (effective log) × (undoable log ≡ true → Tariffed (drop 1 (effective log)))
+
+module _ (log : List Act) (has : TariffedBack log) where
+  noted-act : (a : Act) → isAccepted (answer (readings log) a) ≡ true → TariffedBack (a ∷ log)
+  noted-act (SET s) e = (tariffed-act (effective log) (undoable log) (has .0) (SET s) e, λ q. has .0)
+  noted-act (PUT j x) e = (tariffed-act (effective log) (undoable log) (has .0) (PUT j x) e, λ q. never (cc))
+  noted-act (OPEN j) e = (tariffed-act (effective log) (undoable log) (has .0) (OPEN j) e, λ q. never (cc))
+  noted-act (CLOSE j) e = (tariffed-act (effective log) (undoable log) (has .0) (CLOSE j) e, λ q. never (cc))
+  noted-act (DROP j) e = (tariffed-act (effective log) (undoable log) (has .0) (DROP j) e, λ q. never (cc))
+  noted-act UNDO e = (has .1 (need-accepted (undoable log) 15 accepted e .0), λ q. never (cc))
+
+  tariffed-noted : (c : Call) → TariffedBack (noted log c)
   tariffed-noted c = go (isAccepted (answer (readings log) (c .act))) refl
     where
-      go : (t : Bool) → isAccepted (answer (readings log) (c .act)) ≡ t → Tariffed (cond t (c .act ∷ log) log)
-      go true e = tariffed-act (c .act) e
+      go : (t : Bool) → isAccepted (answer (readings log) (c .act)) ≡ t → TariffedBack (cond t (c .act ∷ log) log)
+      go true e = noted-act (c .act) e
       go false e = has
 
-pub tariffed : (cs : List Call) (log : List Act) → Tariffed log → Tariffed (logAfter log cs)
+pub tariffed : (cs : List Call) (log : List Act) → TariffedBack log → TariffedBack (logAfter log cs)
 unfolding logAfter
 tariffed [] log has = has
 tariffed (c ∷ cs) log has = tariffed cs (noted log c) (tariffed-noted log has c)
@@ -84,24 +99,15 @@ fall-exactly (some x) true true h = (λ e. never (cc), λ e. never (let z = e .1
 fall-exactly (some x) true false h = (λ e. (refl, refl), λ e. refl)
 
 -- a TRIAL on a book of which the checks read what they read from the log, before a SET and after it
-module _ (log : List Act) (b : Book) (s : Sheet) (same : bookReadings b ≡ readings log)
-    (after : bookReadings (step b (call (SET s)) .book) ≡ readings (noted log (call (SET s))))
+module _ (log : List Act) (u : Bool) (b : Book) (s : Sheet) (same : bookReadings b ≡ readingsOf log u)
+    (after : bookReadings (step b (call (SET s)) .book) ≡ readingsOf (SET s ∷ log) true)
     (has : Tariffed log) (known : (k : ℕ) (x : Tariff) → tariffAt log k ≡ some x → inside k ≡ true) where
   abbrev next : List Act
-  next = noted log (call (SET s))
-
-  same-tariff : (k : ℕ) → tariffAt next k ≡ tariffAt log k
-  same-tariff k = go (isAccepted (answer (readings log) (SET s)))
-    where
-      go : (t : Bool) → tariffAt (cond t (SET s ∷ log) log) k ≡ tariffAt log k
-      go true = refl
-      go false = refl
+  next = SET s ∷ log
 
   falls-read : (k : ℕ) → falls b (step b (call (SET s)) .book) k
       ≡ (isOpen (heldAs (tariffAt log k) (openOf log k)) && isDraft (heldAs (tariffAt log k) (openOf next k)))
-  falls-read k =
-      ap₂ (λ r q. isOpen (r .held k) && isDraft (q .held k)) same after
-      ∙ ap (λ t. isOpen (heldAs (tariffAt log k) (openOf log k)) && isDraft (heldAs t (openOf next k))) (same-tariff k)
+  falls-read k = ap₂ (λ r q. isOpen (r .held k) && isDraft (q .held k)) same after
 
   codes-are : (i : ℕ) → (bit (codesWhere (falls b (step b (call (SET s)) .book))) i ≡ true) ↔ WouldFall log s i
   codes-are i = go (decLt i 32)
@@ -119,10 +125,12 @@ module _ (log : List Act) (b : Book) (s : Sheet) (same : bookReadings b ≡ read
         λ w. let x = has (suc i) (w .0) in absurd (omega (arith, code-range (suc i) (known (suc i) (x .0) (x .1)) .1)),
       )
 
-  pub trial-answer : TrialAnswer log s (trialOf b s)
-  unfolding trialOf step
-  trial-answer =
-      record {
-        refused-exactly = told-refusal (refusalNumber (answer (readings log) (SET s))) _;
-        falling-exactly = λ e. (_, ap (λ o. toldUnless o (falling (codesWhere (falls b (step b (call (SET s)) .book))))) (none-of (refusalNumber (answer (readings log) (SET s))) e), codes-are);
-      }
+pub trial-answer : (log : List Act) (u : Bool) (b : Book) (s : Sheet) → bookReadings b ≡ readingsOf log u
+    → (isAccepted (setAnswer s) ≡ true → bookReadings (step b (call (SET s)) .book) ≡ readingsOf (SET s ∷ log) true)
+    → Tariffed log → ((k : ℕ) (x : Tariff) → tariffAt log k ≡ some x → inside k ≡ true) → TrialAnswer log s (trialOf b s)
+unfolding trialOf step
+trial-answer log u b s same after has known =
+    record {
+      refused-exactly = told-refusal (refusalNumber (setAnswer s)) _;
+      falling-exactly = λ e. (_, ap (λ o. toldUnless o (falling (codesWhere (falls b (step b (call (SET s)) .book))))) (none-of (refusalNumber (setAnswer s)) e), codes-are log u b s same (after e) has known);
+    }

@@ -18,13 +18,13 @@ use Rattle.cap.specs.Cap.{excess, Months, share}
 use Rattle.verdict.specs.Cells.{Cell, offered, Offered, tariffNumbers, ExceedsIn, Before, cellAt}
 use Rattle.book.specs.declared.Book.{Book}
 use Rattle.book.specs.declared.Done.{Done}
-use Rattle.book.specs.Calls.{Sheet, Act, SET, OPEN, Call, call, Answer, opened, over, refusalNumber, isAccepted}
-use Rattle.book.specs.Checks.{figuresOf, answer}
+use Rattle.book.specs.Calls.{Sheet, Act, SET, OPEN, Call, Answer, opened, over, refusalNumber, isAccepted}
+use Rattle.book.specs.Checks.{figuresOf, setAnswer}
 use Rattle.book.specs.Book.{holding, held, placeOf, fresh, step}
 use Rattle.book.specs.Promises.{answerOf, Does}
 use Rattle.queries.specs.Queries.{Telling, refused, falling}
 use Rattle.trial.specs.Trial.{trialOf}
-use Rattle.history.specs.History.{sheetOf, tariffAt, openOf, readings, noted, acceptedOf, answersAfter}
+use Rattle.history.specs.History.{sheetOf, tariffAt, openOf, acceptedOf, answersAfter}
 
 -- the place of code k holds tariff x, open
 abbrev pub OpenIn : Book → ℕ → Tariff → Type 0
@@ -77,16 +77,16 @@ pub record OpenAnswer (log : List Act) (k : ℕ) (a : Answer) : Type 0 where
   -- it opens exactly when the code is a draft and its tariff exceeds in no offered cell, and says how many they are
   pub opened-exactly : (n : ℕ) → (a ≡ opened n) ↔ DraftWhere log k (λ s x. (ExceedsSomewhere s x → ⊥) × (n ≡ cellsOffered x))
 
--- code i + 1 is open, and would not be after a SET of the sheet made next
+-- code i + 1 is open, and would not be after a SET of the sheet accepted next
 abbrev pub WouldFall : List Act → Sheet → ℕ → Type 0
-WouldFall log s i = (openOf log (suc i) ≡ true) × (openOf (noted log (call (SET s))) (suc i) ≡ false)
+WouldFall log s i = (openOf log (suc i) ≡ true) × (openOf (SET s ∷ log) (suc i) ≡ false)
 
 -- what holds of a TRIAL of a sheet, told t, where log has the calls that were accepted before it
 pub record TrialAnswer (log : List Act) (s : Sheet) (t : Telling) : Type 0 where
   -- it is refused exactly when a SET of the sheet made next would be, by that number
-  pub refused-exactly : (n : ℕ) → (t ≡ refused n) ↔ (refusalNumber (answer (readings log) (SET s)) ≡ some n)
+  pub refused-exactly : (n : ℕ) → (t ≡ refused n) ↔ (refusalNumber (setAnswer s) ≡ some n)
   -- where that SET would be accepted, it tells a set, and the set has exactly the codes that would fall, bit code - 1 of each
-  pub falling-exactly : isAccepted (answer (readings log) (SET s)) ≡ true
+  pub falling-exactly : isAccepted (setAnswer s) ≡ true
       → (codes : ℕ) × (t ≡ falling codes) × ((i : ℕ) → (bit codes i ≡ true) ↔ WouldFall log s i)
 
 -- Demand 3, of a list of calls, the answers that they had and the book that they left
@@ -109,7 +109,7 @@ pub record Demand3 (calls : List Call) (answers : List Answer) (b : Book) : Type
   pub next-trial : (s : Sheet) → TrialAnswer (acceptedOf calls) s (trialOf b s)
 
 -- A list of calls made by the code: each on the book that the one before it returned, with any answers and books that the calls'
--- own promises allow. `Does` is what SET, PUT, OPEN, CLOSE and DROP each ensure.
+-- own promises allow. `Does` is what SET, PUT, OPEN, CLOSE, DROP and UNDO each ensure.
 pub data Trace : List Call → List Answer → Book → Type 0 where
   start : Trace [] [] fresh
   then : {calls : List Call} {answers : List Answer} {b : Book} → Trace calls answers b → (c : Call) (r : Done) → Does b c r

@@ -1,14 +1,16 @@
 -- Demand 3's words, "read from the calls alone, never from the book".
--- A log is the list of what the accepted calls asked, the newest first.
+-- A log is the list of what the accepted calls asked, the newest first. Sheet, tariffs and open codes are read from the log without what
+-- was taken back, in which there is no UNDO.
 -- Assumes nothing.
 use mathlib.Core.Bool.{Bool, true, false, cond, _&&_}
 use mathlib.Core.List.{List, [], _∷_}
 use mathlib.Core.Option.{Option, none, some}
 use Prim.Native.Nat.{ℕ}
 use lib.Dec.{eqb}
+use lib.ListN.{drop}
 use Rattle.tariff.specs.declared.Tariff.{Tariff}
 use Rattle.tariff.specs.Tariff.{tariffOf}
-use Rattle.book.specs.Calls.{Sheet, Act, SET, PUT, OPEN, CLOSE, DROP, Call, Answer, isAccepted}
+use Rattle.book.specs.Calls.{Sheet, Act, SET, PUT, OPEN, CLOSE, DROP, UNDO, Call, Answer, isAccepted}
 use Rattle.book.specs.Checks.{Holding, Readings, figuresOf, complies, answer}
 use Rattle.book.specs.Book.{holding}
 
@@ -20,6 +22,7 @@ sheetOf (PUT j x ∷ log) = sheetOf log
 sheetOf (OPEN j ∷ log) = sheetOf log
 sheetOf (CLOSE j ∷ log) = sheetOf log
 sheetOf (DROP j ∷ log) = sheetOf log
+sheetOf (UNDO ∷ log) = sheetOf log
 
 -- "The tariff of a code is that of its last accepted PUT with no DROP accepted since."
 abbrev pub tariffAt : List Act → ℕ → Option Tariff
@@ -29,6 +32,7 @@ tariffAt (PUT j x ∷ log) k = cond (eqb j k) (some (tariffOf x)) (tariffAt log 
 tariffAt (OPEN j ∷ log) k = tariffAt log k
 tariffAt (CLOSE j ∷ log) k = tariffAt log k
 tariffAt (DROP j ∷ log) k = cond (eqb j k) none (tariffAt log k)
+tariffAt (UNDO ∷ log) k = tariffAt log k
 
 -- a tariff, where there is one, exceeds with a sheet in no cell
 abbrev pub staysOpen : Sheet → Option Tariff → Bool
@@ -44,14 +48,41 @@ openOf (PUT j x ∷ log) k = cond (eqb j k) false (openOf log k)
 openOf (OPEN j ∷ log) k = cond (eqb j k) true (openOf log k)
 openOf (CLOSE j ∷ log) k = cond (eqb j k) false (openOf log k)
 openOf (DROP j ∷ log) k = cond (eqb j k) false (openOf log k)
+openOf (UNDO ∷ log) k = openOf log k
 
--- what the checks look at: the sheet, and of a code with a tariff that tariff and whether the code is open
+-- M-105: they "are read as if an accepted UNDO and the SET that it takes back were not there". An UNDO is accepted only where what was
+-- accepted last is a SET (`undoable`), and that is the one
+abbrev pub effective : List Act → List Act
+effective [] = []
+effective (SET s ∷ log) = SET s ∷ effective log
+effective (PUT j x ∷ log) = PUT j x ∷ effective log
+effective (OPEN j ∷ log) = OPEN j ∷ effective log
+effective (CLOSE j ∷ log) = CLOSE j ∷ effective log
+effective (DROP j ∷ log) = DROP j ∷ effective log
+effective (UNDO ∷ log) = drop 1 (effective log)
+
+-- UNDO "is allowed only while no PUT, OPEN, CLOSE or DROP has been accepted since" the last accepted SET, "and an accepted UNDO leaves
+-- none": what was accepted last is a SET
+abbrev pub undoable : List Act → Bool
+undoable [] = false
+undoable (SET s ∷ log) = true
+undoable (PUT j x ∷ log) = false
+undoable (OPEN j ∷ log) = false
+undoable (CLOSE j ∷ log) = false
+undoable (DROP j ∷ log) = false
+undoable (UNDO ∷ log) = false
+
+-- what the checks look at: the sheet, of a code with a tariff that tariff and whether the code is open, and whether there is something to
+-- take back
 abbrev pub heldAs : Option Tariff → Bool → Option Holding
 heldAs none o = none
 heldAs (some x) o = some (holding x o)
 
+abbrev pub readingsOf : List Act → Bool → Readings
+readingsOf log u = record { sheet = sheetOf log; held = λ k. heldAs (tariffAt log k) (openOf log k); mayUndo = u }
+
 abbrev pub readings : List Act → Readings
-readings log = record { sheet = sheetOf log; held = λ k. heldAs (tariffAt log k) (openOf log k) }
+readings log = readingsOf (effective log) (undoable log)
 
 -- "a call is accepted when its checks, for what is so read from the calls before it, give no refusal": the log after one call more,
 -- and after a list of calls more
@@ -62,9 +93,9 @@ unfoldable pub logAfter : List Act → List Call → List Act
 logAfter log [] = log
 logAfter log (c ∷ cs) = logAfter (noted log c) cs
 
--- the accepted calls of a list
+-- the accepted calls of a list, without what was taken back
 abbrev pub acceptedOf : List Call → List Act
-acceptedOf calls = logAfter [] calls
+acceptedOf calls = effective (logAfter [] calls)
 
 -- "the answer that its checks give for the sheet, tariffs and open codes read in this way from the calls before it", of each call
 unfoldable pub answersAfter : List Act → List Call → List Answer

@@ -57,14 +57,6 @@ module _ (b : Book) (reach : Reachable b) (l : ℕ) (line numbers : List ℕ) (a
   says-to-do q w v n asked asks is ready same =
       (rw is at (line-is q w n asked asks ready), ready .within, rw is at (ready .right), same)
 
-  pub says-told : (q : Request) (w : Word) (n : ℕ) (t : Query) (told : Telling) (next : ℕ) → q ≡ requestOf line → q ≡ Asks w n → w ≡ Tells t → Ready w n line numbers
-      → told ≡ toldOf b t (take n numbers) → Puts before at (toldText told) next after
-      → Says (Answer next) b (requestLine b l (requestOf line) (numbersOf line)) at before after numbers
-  says-told q w n t told next asked asks tells ready e puts =
-      subst (λ x. Says (Answer next) b x at before after numbers)
-      (sym (rw tells at (line-is q w n asked asks ready)))
-      (record { book = refl; reachable = reach; text = rw e at puts })
-
 -- a line that is too long, and one that is not
 module _ (b : Book) (l : ℕ) (cut : Bool) (bytes : List ℕ) where
   pub cut-line : cut ≡ true → lineAt b l cut bytes ≡ longLine b l
@@ -89,3 +81,8 @@ step-done b c did before at next after does r w =
       reachable = does-reachable r does;
       text = rw (← does .answers) w;
     }
+
+-- a query that was told is what its line asks for
+pub told-done : (b : Book) (q : Query) (ns : List ℕ) (t : Telling) (before : List ℕ) (at next : ℕ) (after : List ℕ) → Reachable b → t ≡ toldOf b q ns
+    → Puts before at (toldText t) next after → Answered (callLine b (Tells q) ns) b before at next after
+told-done b q ns t before at next after r e w = record { book = refl; reachable = r; text = rw e at w }

@@ -7,7 +7,7 @@ use lib.Dec.{ltb}
 use lib.ListN.{length, getD, drop}
 use Rattle.calendar.specs.declared.Period.{Period}
 use Rattle.book.specs.declared.Book.{Book}
-use Rattle.book.specs.Calls.{Sheet, sheetAt, Act, SET, PUT, OPEN, CLOSE, DROP, Call, call}
+use Rattle.book.specs.Calls.{Sheet, sheetAt, Act, SET, PUT, OPEN, CLOSE, DROP, UNDO, Call, call}
 use Rattle.book.specs.Book.{step}
 use Rattle.queries.specs.Queries.{Telling, benchmarkOf, maximumOf, quoteOf}
 use Rattle.trial.specs.Trial.{trialOf}
@@ -17,7 +17,7 @@ use Rattle.request.specs.declared.CodeStep.the-variants.{Put, Open, Close, Drop
 use Rattle.request.specs.declared.Query.{Query}
 use Rattle.request.specs.declared.Query.the-variants.{Benchmark, Maximum, Quote, Trial}
 use Rattle.request.specs.declared.Word.{Word}
-use Rattle.request.specs.declared.Word.the-variants.{Set, On, Tells}
+use Rattle.request.specs.declared.Word.the-variants.{Set, Undo, On, Tells}
 use Rattle.request.specs.declared.Request.{Request}
 use Rattle.request.specs.declared.Request.the-variants.{Nothing, Asks, Unknown, NotANumber, WrongCount}
 use Rattle.request.specs.Requests.{requestOf, numbersOf}
@@ -58,6 +58,7 @@ toldLine b t = record { book = b; text = toldText t }
 
 abbrev pub callLine : Book → Word → List ℕ → Response
 callLine b Set ns = stepLine b (call (SET (givenSheet ns)))
+callLine b Undo ns = stepLine b (call UNDO)
 callLine b (On s) ns = stepLine b (call (onOf s ns))
 callLine b (Tells q) ns = toldLine b (toldOf b q ns)
 

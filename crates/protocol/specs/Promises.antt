@@ -5,14 +5,15 @@ use mathlib.Core.List.{List}
 use Prim.Native.Nat.{ℕ, _≤_}
 use lib.ListN.{length, take}
 use Rattle.book.specs.declared.Book.{Book}
+use Rattle.book.specs.Calls.{UNDO, call}
 use Rattle.book.specs.Book.{Reachable}
 use Rattle.texts.specs.Writing.{Puts}
 use Rattle.request.specs.declared.Word.{Word}
 use Rattle.request.specs.declared.Word.the-variants as word
 use Rattle.request.specs.Requests.{arity, RightCount}
 use Rattle.protocol.specs.declared.Said.{Said}
-use Rattle.protocol.specs.declared.Said.the-variants.{Answer, Set, On}
-use Rattle.protocol.specs.Lines.{Response, callLine}
+use Rattle.protocol.specs.declared.Said.the-variants.{Answer, Set, Undo, On, Tells}
+use Rattle.protocol.specs.Lines.{Response, stepLine, callLine}
 
 -- a line was answered as it is meant: the book after it, which is again one that calls leave, and the text of its answer
 pub record Answered (line : Response) (b : Book) (before : List ℕ) (at next : ℕ) (after : List ℕ) : Type 0 where
@@ -24,8 +25,10 @@ pub record Answered (line : Response) (b : Book) (before : List ℕ) (at next : 
 abbrev pub ToDo : Word → (n : ℕ) (b : Book) (line : Response) (before after numbers : List ℕ) → Type 0
 ToDo w n b line before after numbers = (line ≡ callLine b w (take n numbers)) × (n ≤ length numbers) × RightCount (arity w) n × (after ≡ before)
 
--- a line is answered, with the book as it was; or it is a call that may change it
+-- a line is answered, with the book as it was; or it is a call
 abbrev pub Says : Said → (b : Book) (line : Response) (at : ℕ) (before after numbers : List ℕ) → Type 0
 Says (Answer next) b line at before after numbers = Answered line b before at next after
 Says (Set n) b line at before after numbers = ToDo word.Set n b line before after numbers
+Says Undo b line at before after numbers = (line ≡ stepLine b (call UNDO)) × (after ≡ before)
 Says (On s n) b line at before after numbers = ToDo (word.On s) n b line before after numbers
+Says (Tells q n) b line at before after numbers = ToDo (word.Tells q) n b line before after numbers

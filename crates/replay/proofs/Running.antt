@@ -8,7 +8,7 @@ use native.Mathlib.Numerals.{add-one}
 use lib.ListN.{length, drop, set, length-set}
 use lib.Seq.{sets}
 use Rattle.book.specs.declared.Book.{Book}
-use Rattle.book.specs.Calls.{Act, SET, PUT, OPEN, CLOSE, DROP, Call}
+use Rattle.book.specs.Calls.{Act, SET, PUT, OPEN, CLOSE, DROP, UNDO, Call}
 use Rattle.book.specs.Book.{bookAfter, answersOf}
 use Rattle.replay.specs.declared.Ran.{Ran}
 use Rattle.replay.specs.Encoded.{encodeAct, encode, numberOf}
@@ -28,6 +28,7 @@ encoded-long (PUT k x) l = omega arith
 encoded-long (OPEN k) l = omega arith
 encoded-long (CLOSE k) l = omega arith
 encoded-long (DROP k) l = omega arith
+encoded-long UNDO l = omega arith
 
 module _ (B : Book) (O rest : List ℕ) (b : Book) (out : List ℕ) (n : ℕ) where
   -- one call is run

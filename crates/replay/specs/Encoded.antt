@@ -4,16 +4,17 @@ use mathlib.Core.List.{List, [], _∷_, _++_}
 use mathlib.Core.Option.{Option·getD}
 use Prim.Native.Nat.{ℕ, _+_}
 use lib.ListN.{length}
-use Rattle.book.specs.Calls.{Act, SET, PUT, OPEN, CLOSE, DROP, Call, Answer, accepted, opened, refused, over, refusalNumber}
+use Rattle.book.specs.Calls.{Act, SET, PUT, OPEN, CLOSE, DROP, UNDO, Call, Answer, accepted, opened, refused, over, refusalNumber}
 
 -- SET: 0, year, month, t, the count of fields and the fields. PUT: 1, code, the count of numbers and the numbers. OPEN: 2 and the
--- code. CLOSE: 3 and the code. DROP: 4 and the code.
+-- code. CLOSE: 3 and the code. DROP: 4 and the code. UNDO: 5.
 abbrev pub encodeAct : Act → List ℕ
 encodeAct (SET s) = 0 ∷ s .period .year ∷ s .period .month ∷ s .period .months ∷ length (s .fields) ∷ s .fields
 encodeAct (PUT k x) = 1 ∷ k ∷ length x ∷ x
 encodeAct (OPEN k) = 2 ∷ k ∷ []
 encodeAct (CLOSE k) = 3 ∷ k ∷ []
 encodeAct (DROP k) = 4 ∷ k ∷ []
+encodeAct UNDO = 5 ∷ []
 
 abbrev pub encodeCall : Call → List ℕ
 encodeCall c = encodeAct (c .act)

@@ -1,6 +1,6 @@
 // A lent list of encoded calls, run from a fresh book.
 // Promise: `run`'s own contract is demand 3, of the answers that it wrote and the book that it returns. It is the witness that the
-// contracts of SET, PUT, OPEN, CLOSE and DROP compose. A list that encodes no calls ends the run where it stops making sense.
+// contracts of SET, PUT, OPEN, CLOSE, DROP and UNDO compose. A list that encodes no calls ends the run where it stops making sense.
 ghost use mathlib.Core.Path.{_≡_};
 ghost use mathlib.Core.List.{List, map};
 ghost use Prim.Native.Nat.{ℕ, _≤_, _<_};
@@ -50,7 +50,7 @@ fn number_at(calls: &[u32], at: usize) -> u32
 // Where the call at the start of a list ends, past the list where none stands there.
 fn end_of(calls: &[u32]) -> usize
     requires { ⌜ 0 < length (now calls) ⌝ }
-    ensures { λ r. ⌜ (r ≡ endOf (now (calls .entry))) × (2 ≤ r) ⌝ }
+    ensures { λ r. ⌜ (r ≡ endOf (now (calls .entry))) × (1 ≤ r) ⌝ }
 {
     let op = calls[0];
     if op == 0 {
@@ -61,6 +61,9 @@ fn end_of(calls: &[u32]) -> usize
     }
     if op <= 4 {
         return 2;
+    }
+    if op == 5 {
+        return 1;
     }
     calls.len() + 1
 }
@@ -101,7 +104,7 @@ fn code_act(op: u32) -> CodeAct
 
 // The call that ends at `end` is made.
 fn made(b: Book, calls: &[u32], end: usize) -> Done
-    requires { ⌜ Reachable b × (end ≡ endOf (now calls)) × (2 ≤ end) × (end ≤ length (now calls)) ⌝ }
+    requires { ⌜ Reachable b × (end ≡ endOf (now calls)) × (1 ≤ end) × (end ≤ length (now calls)) ⌝ }
     ensures { λ r. ⌜ Does b (call (actTo (now (calls .entry)) end)) r ⌝ }
 {
     let op = calls[0];
@@ -111,7 +114,10 @@ fn made(b: Book, calls: &[u32], end: usize) -> Done
     if op == 1 {
         return put_to(b, calls, end);
     }
-    codes::act_on(b, calls[1], code_act(op))
+    if op == 5 {
+        return undo::undo(b);
+    }
+    codes::act_on(b, number_at(calls, 1), code_act(op))
 }
 
 // The call at the start of a list; where none stands there, nothing is left to run.

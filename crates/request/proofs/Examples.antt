@@ -7,7 +7,7 @@ use Rattle.lines.specs.Words.{parts, notEmpty, words}
 use Rattle.lines.specs.Numerals.{digits, valueAfter, value, numbersIn}
 use Rattle.request.specs.declared.CodeStep.the-variants.{Put, Open, Close, Drop}
 use Rattle.request.specs.declared.Query.the-variants.{Benchmark, Maximum, Quote, Trial}
-use Rattle.request.specs.declared.Word.the-variants.{Set, On, Tells}
+use Rattle.request.specs.declared.Word.the-variants.{Set, Undo, On, Tells}
 use Rattle.request.specs.declared.Request.the-variants.{Nothing, Asks, Unknown, NotANumber, WrongCount}
 use Rattle.request.specs.Requests.{same, named, requestOf, numbersOf}
 
@@ -76,3 +76,15 @@ tried = refl
 tried-short : requestOf (bytesOf "trial 2024 4") ≡ WrongCount (Tells Trial)
 unfolding requestOf words parts notEmpty same named numbersIn digits valueAfter value
 tried-short = refl
+
+taken-back : requestOf (bytesOf "undo ") ≡ Asks Undo 0
+unfolding requestOf words parts notEmpty same named numbersIn digits valueAfter value
+taken-back = refl
+
+taken-back-of : requestOf (bytesOf "undo 1") ≡ WrongCount Undo
+unfolding requestOf words parts notEmpty same named numbersIn digits valueAfter value
+taken-back-of = refl
+
+taken-back-word : requestOf (bytesOf "undo it") ≡ NotANumber 2
+unfolding requestOf words parts notEmpty same named numbersIn digits valueAfter value
+taken-back-word = refl

@@ -12,7 +12,7 @@ use Rattle.laws.proofs.Every.{and-left, and-right}
 use Rattle.request.specs.declared.CodeStep.the-variants.{Put, Open, Close, Drop}
 use Rattle.request.specs.declared.Query.the-variants.{Benchmark, Maximum, Quote, Trial}
 use Rattle.request.specs.declared.Word.{Word}
-use Rattle.request.specs.declared.Word.the-variants.{Set, On, Tells}
+use Rattle.request.specs.declared.Word.the-variants.{Set, Undo, On, Tells}
 use Rattle.request.specs.declared.Named.{Named}
 use Rattle.request.specs.declared.Named.the-variants.{By, None}
 use Rattle.request.specs.Requests.{calls, nameOf, same, named}
@@ -31,6 +31,7 @@ equal (x ∷ xs) (y ∷ ys) e =
 named-by : (c : Word) → named calls (nameOf c) ≡ By c
 unfolding named same
 named-by Set = refl
+named-by Undo = refl
 named-by (On Put) = refl
 named-by (On Open) = refl
 named-by (On Close) = refl
@@ -53,17 +54,18 @@ unfolding named
 none-named [] w h = refl
 none-named (c ∷ cs) w h = skip w c (named cs w) (h c) ∙ none-named cs w h
 
--- the calls' names begin with nine bytes
+-- the calls' names begin with ten bytes
 abbrev callBy : ℕ → Word
 callBy n =
     cond (eqb n 98) (Tells Benchmark)
     (cond (eqb n 99) (On Close)
     (cond (eqb n 100) (On Drop)
     (cond (eqb n 109) (Tells Maximum)
-    (cond (eqb n 111) (On Open) (cond (eqb n 112) (On Put) (cond (eqb n 113) (Tells Quote) (cond (eqb n 115) Set (Tells Trial))))))))
+    (cond (eqb n 111) (On Open) (cond (eqb n 112) (On Put) (cond (eqb n 113) (Tells Quote) (cond (eqb n 115) Set (cond (eqb n 117) Undo (Tells Trial)))))))))
 
 by-first : (c : Word) → c ≡ callBy (getD (nameOf c) 0 0)
 by-first Set = refl
+by-first Undo = refl
 by-first (On Put) = refl
 by-first (On Open) = refl
 by-first (On Close) = refl
@@ -76,18 +78,19 @@ by-first (Tells Trial) = refl
 pub first-alone : (c d : Word) → getD (nameOf c) 0 0 ≡ getD (nameOf d) 0 0 → c ≡ d
 first-alone c d e = by-first c ∙ ap callBy e ∙ sym (by-first d)
 
--- a byte that is none of the first eight leaves one call
-pub last-call : (n : ℕ) → (n ≡ 98 → ⊥) → (n ≡ 99 → ⊥) → (n ≡ 100 → ⊥) → (n ≡ 109 → ⊥) → (n ≡ 111 → ⊥) → (n ≡ 112 → ⊥) → (n ≡ 113 → ⊥) → (n ≡ 115 → ⊥)
+-- a byte that is none of the first nine leaves one call
+pub last-call : (n : ℕ) → (n ≡ 98 → ⊥) → (n ≡ 99 → ⊥) → (n ≡ 100 → ⊥) → (n ≡ 109 → ⊥) → (n ≡ 111 → ⊥) → (n ≡ 112 → ⊥) → (n ≡ 113 → ⊥) → (n ≡ 115 → ⊥) → (n ≡ 117 → ⊥)
     → (c : Word) → getD (nameOf c) 0 0 ≡ n → c ≡ Tells Trial
-last-call n b k d m o p q s Set e = absurd (s (sym e))
-last-call n b k d m o p q s (On Put) e = absurd (p (sym e))
-last-call n b k d m o p q s (On Open) e = absurd (o (sym e))
-last-call n b k d m o p q s (On Close) e = absurd (k (sym e))
-last-call n b k d m o p q s (On Drop) e = absurd (d (sym e))
-last-call n b k d m o p q s (Tells Benchmark) e = absurd (b (sym e))
-last-call n b k d m o p q s (Tells Maximum) e = absurd (m (sym e))
-last-call n b k d m o p q s (Tells Quote) e = absurd (q (sym e))
-last-call n b k d m o p q s (Tells Trial) e = refl
+last-call n b k d m o p q s u Set e = absurd (s (sym e))
+last-call n b k d m o p q s u Undo e = absurd (u (sym e))
+last-call n b k d m o p q s u (On Put) e = absurd (p (sym e))
+last-call n b k d m o p q s u (On Open) e = absurd (o (sym e))
+last-call n b k d m o p q s u (On Close) e = absurd (k (sym e))
+last-call n b k d m o p q s u (On Drop) e = absurd (d (sym e))
+last-call n b k d m o p q s u (Tells Benchmark) e = absurd (b (sym e))
+last-call n b k d m o p q s u (Tells Maximum) e = absurd (m (sym e))
+last-call n b k d m o p q s u (Tells Quote) e = absurd (q (sym e))
+last-call n b k d m o p q s u (Tells Trial) e = refl
 
 -- what a word names: nothing where it has no byte; else the one call whose name begins as it does, where that name is the word
 pub names-nothing : (w : List ℕ) → length w ≡ 0 → None ≡ named calls w

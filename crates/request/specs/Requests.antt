@@ -14,7 +14,7 @@ use Rattle.lines.specs.Numerals.{value, numbersIn}
 use Rattle.request.specs.declared.CodeStep.the-variants.{Put, Open, Close, Drop}
 use Rattle.request.specs.declared.Query.the-variants.{Benchmark, Maximum, Quote, Trial}
 use Rattle.request.specs.declared.Word.{Word}
-use Rattle.request.specs.declared.Word.the-variants.{Set, On, Tells}
+use Rattle.request.specs.declared.Word.the-variants.{Set, Undo, On, Tells}
 use Rattle.request.specs.declared.Arity.{Arity}
 use Rattle.request.specs.declared.Arity.the-variants.{Exactly, AtLeast}
 use Rattle.request.specs.declared.Form.{Form}
@@ -23,12 +23,13 @@ use Rattle.request.specs.declared.Named.the-variants.{By, None}
 use Rattle.request.specs.declared.Request.{Request}
 use Rattle.request.specs.declared.Request.the-variants.{Nothing, Asks, Unknown, NotANumber, WrongCount}
 
--- the nine calls: SET, four on a code, and four that tell of the book
+-- the ten calls: SET, UNDO, four on a code, and four that tell of the book
 abbrev pub calls : List Word
-calls = Set ∷ On Put ∷ On Open ∷ On Close ∷ On Drop ∷ Tells Benchmark ∷ Tells Maximum ∷ Tells Quote ∷ Tells Trial ∷ []
+calls = Set ∷ Undo ∷ On Put ∷ On Open ∷ On Close ∷ On Drop ∷ Tells Benchmark ∷ Tells Maximum ∷ Tells Quote ∷ Tells Trial ∷ []
 
 abbrev pub nameOf : Word → List ℕ
 nameOf Set = bytesOf "set"
+nameOf Undo = bytesOf "undo"
 nameOf (On Put) = bytesOf "put"
 nameOf (On Open) = bytesOf "open"
 nameOf (On Close) = bytesOf "close"
@@ -41,6 +42,7 @@ nameOf (Tells Trial) = bytesOf "trial"
 -- how many numbers a call takes
 abbrev pub arity : Word → Arity
 arity Set = AtLeast 3
+arity Undo = Exactly 0
 arity (On Put) = AtLeast 1
 arity (On Open) = Exactly 1
 arity (On Close) = Exactly 1

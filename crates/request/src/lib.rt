@@ -1,4 +1,4 @@
-// Which call a line asks for: one of the nine with its numbers, or why the line is no call.
+// Which call a line asks for: one of the ten with its numbers, or why the line is no call.
 // Promise: `request_of` answers what specs/Requests.antt, the desk's protocol, says of every line of bytes, and leaves a call's numbers in
 // order. `Standing` is what the layer above may use of a call: the count is right for it, and its numbers stand there. A call is its
 // case here, its name and arity in `form_of`, and the first byte of its name in `beginning`; all that reads or writes it goes by these.
@@ -25,9 +25,10 @@ pub enum Query {
     Trial,
 }
 
-// A call's own word: SET, a call on a code, or one that tells.
+// A call's own word: SET, UNDO, a call on a code, or one that tells.
 pub enum Word {
     Set,
+    Undo,
     On(CodeStep),
     Tells(Query),
 }
@@ -76,6 +77,7 @@ pub fn form_of(word: Word) -> Form
 {
     match word {
         Word::Set => formed(*b"set      ", 3, Arity::AtLeast(3)),
+        Word::Undo => formed(*b"undo     ", 4, Arity::Exactly(0)),
         Word::On(step) => match step {
             CodeStep::Put => formed(*b"put      ", 3, Arity::AtLeast(1)),
             CodeStep::Open => formed(*b"open     ", 4, Arity::Exactly(1)),
@@ -104,6 +106,7 @@ fn beginning(first: u8) -> Word
         b'p' => Word::On(CodeStep::Put),
         b'q' => Word::Tells(Query::Quote),
         b's' => Word::Set,
+        b'u' => Word::Undo,
         _ => Word::Tells(Query::Trial),
     }
 }

@@ -1,19 +1,14 @@
 -- A place under the figures of a new sheet.
 -- Assumes nothing.
 use mathlib.Core.Path.{_≡_, sym, _∙_, ap}
-use mathlib.Core.List.{List, map}
 use mathlib.Core.Option.{Option, none}
-use Prim.Native.Nat.{ℕ, _<_}
-use native.Mathlib.Omega.{arith}
-use lib.ListN.{length, getD, length-map, List·getD-map}
-use lib.Seq.{ext-getD}
 use Rattle.benchmark.specs.declared.Benchmarks.{Benchmarks}
 use Rattle.verdict.specs.Cells.{Cell, firstOver}
 use Rattle.book.specs.declared.State.{State}
 use Rattle.book.specs.declared.State.the-variants.{Empty, Draft, Open}
 use Rattle.book.specs.declared.Place.{Place}
 use Rattle.book.specs.Calls.{isNone}
-use Rattle.book.specs.Book.{beyond, placeWith, tariffIn, withState, openIf, stateUnder, under}
+use Rattle.book.specs.Book.{placeWith, tariffIn, withState, openIf, stateUnder, under}
 
 module _ (f : Benchmarks) (p : Place) where
   by-state : (s : State) → p .state ≡ s → under f p ≡ withState (stateUnder f s (tariffIn p)) p
@@ -34,10 +29,3 @@ module _ (f : Benchmarks) (p : Place) where
 
   pub open-kept : p .state ≡ Open → firstOver f (tariffIn p) ≡ none → p ≡ under f p
   open-kept e h = same-state Open e ∙ open-judged e none h
-
--- places that were judged one by one are the places judged
-pub judged-alike : (f : Benchmarks) (ps qs : List Place) → length ps ≡ 32 → length qs ≡ 32
-    → ((j : ℕ) → j < 32 → getD qs j beyond ≡ under f (getD ps j beyond)) → qs ≡ map (under f) ps
-judged-alike f ps qs l m h =
-    ext-getD beyond qs (map (under f) ps) (m ∙ sym (length-map ps (under f) ∙ l))
-    (λ j k. h j (omega arith) ∙ sym (List·getD-map (under f) ps j beyond))

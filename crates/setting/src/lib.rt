@@ -1,23 +1,26 @@
 // SET: the checks of a sheet and its period, and every open tariff judged by it.
 // Promise: `set` answers and leaves what `step` says of SET, on refused input too: the sheet is replaced, and each open tariff that
-// exceeds somewhere becomes a draft. `judge` does all of that but storing it, for TRIAL too. Both require document 01's own sentence on
-// the book, `Reachable`.
+// exceeds somewhere becomes a draft. `judge` does all of that but storing it, for TRIAL too, and asks only
+// that the places hold nothing or valid tariffs. `set` requires document 01's own sentence on the book, `Reachable`.
 ghost use mathlib.Core.Path.{_≡_};
+ghost use mathlib.Core.Bool.{true};
 ghost use mathlib.Core.List.{map};
 ghost use Prim.Native.Nat.{ℕ, _<_};
 ghost use lib.ListN.{length, getD};
 ghost use Rattle.sheet.specs.Sheet.{fieldCount};
 ghost use Rattle.benchmark.specs.Lawful.{Lawful};
 ghost use Rattle.book.specs.Calls.{SET, sheetAt, call};
-ghost use Rattle.book.specs.Book.{beyond, under, Reachable};
+ghost use Rattle.book.specs.Book.{beyond, under, stoodAs, Reachable};
 ghost use Rattle.book.specs.Promises.{Does};
 ghost use Rattle.stands.specs.Stands.{HoldsValid};
 ghost use Rattle.setting.specs.Judging.{Judges};
 use benchmark::Benchmarks;
 use book::Book;
 use book::Done;
+use book::Kept;
 use book::Place;
 use book::State;
+use book::Stood;
 use calendar::Period;
 use refusal::Check;
 use sheet::FIELD_COUNT;
@@ -78,49 +81,81 @@ pub struct Judgement {
     pub places: [Place; 32],
 }
 
-// What a sheet would do to a book.
-pub fn judge(b: Book, fields: &[u32], period: Period) -> Judgement
-    requires { ⌜ Reachable b ⌝ }
-    ensures { λ r. ⌜ Judges b (sheetAt (now (fields .entry)) period) r ⌝ }
+// What a sheet would do to the places of a book.
+pub fn judge(places: [Place; 32], fields: &[u32], period: Period) -> Judgement
+    requires { ⌜ ((i : ℕ) → i < 32 → HoldsValid (getD places i beyond)) ⌝ }
+    ensures { λ r. ⌜ Judges places (sheetAt (now (fields .entry)) period) r ⌝ }
 {
     let worked = figures::work_out(fields, period);
     let check = worked.check;
     let figures = worked.benchmarks;
-    let before = b.places;
     let Check::Pass = check else {
         return Judgement {
             check,
             figures,
-            places: before,
+            places,
         };
     };
-    let places = all_judged(before, figures);
     Judgement {
         check,
         figures,
-        places,
+        places: all_judged(places, figures),
     }
 }
 
-// SET (sheet, period). 1 to 4, 14, 5. Else the sheet is replaced and each open tariff that exceeds somewhere becomes a draft.
+// The state of each place.
+fn states_of(places: [Place; 32]) -> [Stood; 32]
+    ensures { λ r. ⌜ r ≡ map (λ p. stoodAs (p .state)) places ⌝ }
+{
+    let mut states = [Stood {
+        state: State::Empty,
+    }; 32];
+    let mut at: usize = 0;
+    while at < 32 {
+        let p = places[at];
+        let state = p.state;
+        states[at] = Stood { state };
+        at += 1;
+    }
+    states
+}
+
+// What is kept for UNDO of a book with this sheet, or none, and these places.
+fn kept_of(loaded: bool, fields: [u32; FIELD_COUNT], period: Period, places: [Place; 32]) -> Kept
+    ensures { λ r. ⌜ r ≡ record { any = true; loaded = loaded; fields = fields; period = period; states = map (λ p. stoodAs (p .state)) places } ⌝ }
+{
+    Kept {
+        any: true,
+        loaded,
+        fields,
+        period,
+        states: states_of(places),
+    }
+}
+
+// SET (sheet, period). 1 to 4, 14, 5. Else the sheet is replaced, each open tariff that exceeds somewhere becomes a
+// draft, and UNDO may take it back.
 pub fn set(b: Book, fields: &[u32], period: Period) -> Done
     requires { ⌜ Reachable b ⌝ }
     ensures { λ r. ⌜ Does b (call (SET (sheetAt (now (fields .entry)) period))) r ⌝ }
 {
-    let judged = judge(b, fields, period);
+    let before = b.places;
+    let judged = judge(before, fields, period);
     let check = judged.check;
     let Check::Pass = check else {
         return book::answered(check, b);
     };
-    let figures = judged.figures;
-    let places = judged.places;
+    let old = b.fields;
+    let since = b.period;
+    let mut next = b;
+    next.kept = kept_of(b.loaded, old, since, before);
+    next.loaded = true;
     let copy = fields_of(fields);
-    let next = Book {
-        loaded: true,
-        fields: copy,
-        period,
-        benchmarks: figures,
-        places,
-    };
+    next.fields = copy;
+    next.period = period;
+    let figures = judged.figures;
+    next.benchmarks = figures;
+    let places = judged.places;
+    next.places = places;
     book::answered(check, next)
 }

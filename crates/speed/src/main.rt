@@ -1,7 +1,7 @@
 // The calls of the book, timed: `speed MEASUREMENT CALLS` makes that many calls from a fixed generator and prints the checksum of
 // their answers. 0: SET with 32 open tariffs. 1: OPEN of 28 cells and 4 tiers, with the CLOSE that frees it. 2: OPEN that is over
 // the cap in the last cell. 3: QUOTE of 12 months. 4: BENCHMARK. 5: TRIAL with 32 open tariffs. 6: as 1, the book handed to each call
-// and back. Any other number: each of the seven in turn.
+// and back. 7: as 0, each SET taken back by UNDO. Any other number: each of the eight in turn.
 // Promise: each run is safe and ends, and every book that is handed to a call is one that some list of calls leaves.
 // tests/speed has the twin of this program on another implementation, and the runner that times both.
 ghost use mathlib.Core.Path.{_≡_};
@@ -378,11 +378,17 @@ fn opens(n: u64) -> u64 {
         let reply = did.reply;
         let opened = did.place;
         b.places[at] = opened;
+        if book::ends_undo(reply, b.kept.any) {
+            b.kept = book::nothing_kept();
+        }
         let again = b.places[at];
         let undid = codes::settle(CodeAct::Close, code, again, b.loaded, figures);
         let answer = undid.reply;
         let closed = undid.place;
         b.places[at] = closed;
+        if book::ends_undo(answer, b.kept.any) {
+            b.kept = book::nothing_kept();
+        }
         sum = fold_reply(fold_reply(sum, reply), answer);
         i += 1;
     }
@@ -405,6 +411,9 @@ fn overs(n: u64) -> u64 {
         let months = did.months;
         let place = did.place;
         b.places[at] = place;
+        if book::ends_undo(reply, b.kept.any) {
+            b.kept = book::nothing_kept();
+        }
         sum = fold_reply(sum, reply);
         sum = fold(fold(sum, wide(months[0])), wide(months[11]));
         i += 1;
@@ -432,6 +441,29 @@ fn handed(n: u64) -> u64 {
         i += 1;
     }
     sum
+}
+
+// Each SET is taken back.
+fn undos(n: u64) -> u64 {
+    let base = SHEET;
+    let mut sheet = SHEET;
+    let mut b = with_open();
+    let mut x: u64 = 1;
+    let mut sum: u64 = 0;
+    let mut i: u64 = 0;
+    while i < n {
+        x = redraw(&mut sheet, &base, x);
+        let did = setting::set(b, &sheet, drawn_period(x));
+        let reply = did.reply;
+        let set = did.book;
+        let undid = undo::undo(set);
+        let answer = undid.reply;
+        let after = undid.book;
+        b = after;
+        sum = fold_reply(fold_reply(sum, reply), answer);
+        i += 1;
+    }
+    fold_book(b, sum)
 }
 
 fn quotes(n: u64) -> u64 {
@@ -498,7 +530,8 @@ fn measured(measurement: u64, calls: u64) -> u64 {
         3 => quotes(calls),
         4 => benchmarks(calls),
         5 => trials(calls),
-        _ => handed(calls),
+        6 => handed(calls),
+        _ => undos(calls),
     }
 }
 
@@ -540,11 +573,11 @@ fn argument(i: usize) -> u64 {
 fn main() {
     let measurement = argument(1);
     let calls = argument(2);
-    if measurement < 7 {
+    if measurement < 8 {
         print(measured(measurement, calls));
         return;
     }
-    for each in 0..7 {
+    for each in 0..8 {
         print(measured(each, calls));
     }
 }

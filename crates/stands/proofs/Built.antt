@@ -1,4 +1,5 @@
--- Every book that stands is reachable: SET its sheet, if it has one, and then place by place PUT the record and OPEN what is open.
+-- Every book that stands is reachable: SET its sheet, if it has one, and then place by place PUT the record and OPEN what is open; where there
+-- is a SET to take back, the same of the book before it, and that SET.
 -- Assumes nothing.
 use mathlib.Core.Path.{_≡_, refl, sym, _∙_, ap, subst}
 use mathlib.Core.Bool.{Bool, true, false}
@@ -19,15 +20,21 @@ use Rattle.book.specs.declared.Place.{Place}
 use Rattle.book.specs.declared.Book.{Book}
 use Rattle.book.specs.Calls.{Sheet, Record, SET, PUT, OPEN, call, accepted, opened, refused}
 use Rattle.book.specs.Checks.{figuresOf, inside, putAnswer, openAnswer}
-use Rattle.book.specs.Book.{empty, placeWith, tariffIn, withState, fresh, beyond, held, sheetIf, sheetIn, inForce, withPlaces, withPlace, under, changed, Reachable}
+use Rattle.book.specs.Book.{empty, placeWith, tariffIn, withState, nothingKept, fresh, beyond, held, sheetIf, sheetIn, inForce, withPlaces, withPlace, under, restored, changed, Reachable}
 use Rattle.book.proofs.Places.{in-range}
 use Rattle.book.proofs.Reached.{fresh-reachable, step-reachable}
 use Rattle.book.proofs.Steps.{made}
-use Rattle.stands.specs.Stands.{Recorded, MayOpen, MayStandAs, MayStand, Stands}
+use Rattle.stands.specs.Stands.{Recorded, MayOpen, MayStandAs, MayStand, Fits, Stands}
+use Rattle.stands.proofs.Undone.{unkept}
+use Rattle.stands.proofs.TakenBack.{unkept-reachable}
 
--- the book with places xs, then p, then ys is reachable
+-- the book with these places and nothing to take back is reachable
+unfoldable Has : Book → List Place → Type 0
+Has b ps = Reachable (withPlaces b ps nothingKept)
+
+-- with places xs, then p, then ys
 abbrev Reached : Book → List Place → Place → List Place → Type 0
-Reached b xs p ys = Reachable (withPlaces b (xs ++ p ∷ ys))
+Reached b xs p ys = Has b (xs ++ p ∷ ys)
 
 -- a tariff that may be open: a sheet is loaded, and OPEN answers with the number of cells
 may-open : (l : Bool) (s : Sheet) (k : ℕ) (x : Tariff) → inside k ≡ true → MayOpen (sheetIf l s) x
@@ -42,22 +49,24 @@ module _ (b : Book) (xs ys : List Place) (within : length xs < 32) where
   code = in-range (suc (length xs)) (omega arith) (omega arith)
 
   put-there : (y : Record) → recordCheck y ≡ Pass → Reached b xs empty ys → Reached b xs (placeWith Draft (tariffOf y)) ys
+  unfolding Has
   put-there y e r =
-      let d = withPlaces b (xs ++ empty ∷ ys) in
+      let d = withPlaces b (xs ++ empty ∷ ys) nothingKept in
       let k = suc (length xs) in
       let a : putAnswer k (held (getD (xs ++ empty ∷ ys) (length xs) beyond)) y ≡ accepted = rw (code, getD-append-seam xs empty ys beyond, e) refl in
       let m = made d (call (PUT k y)) accepted a refl in
-      subst Reachable (m ∙ ap (withPlaces b) (set-append-seam xs empty ys (placeWith Draft (tariffOf y)))) (step-reachable r (call (PUT k y)))
+      subst Reachable (m ∙ ap (λ ps. withPlaces b ps nothingKept) (set-append-seam xs empty ys (placeWith Draft (tariffOf y)))) (step-reachable r (call (PUT k y)))
 
   open-there : (x : Tariff) → MayOpen (inForce b) x → Reached b xs (placeWith Draft x) ys → Reached b xs (placeWith Open x) ys
+  unfolding Has
   open-there x h r =
       let p = placeWith Draft x in
-      let d = withPlaces b (xs ++ p ∷ ys) in
+      let d = withPlaces b (xs ++ p ∷ ys) nothingKept in
       let k = suc (length xs) in
       let it = getD-append-seam xs p ys beyond in
       let a : openAnswer k (held (getD (xs ++ p ∷ ys) (length xs) beyond)) (inForce b) ≡ opened (cellCount x) = ap (λ q. openAnswer k (held q) (inForce b)) it ∙ may-open (b .loaded) (sheetIn b) k x code h in
       let m = made d (call (OPEN k)) (opened (cellCount x)) a refl in
-      let n = ap (λ q. withPlace d k (withState Open q)) it ∙ ap (withPlaces b) (set-append-seam xs p ys (placeWith Open x)) in
+      let n = ap (λ q. withPlace d k (withState Open q)) it ∙ ap (λ ps. withPlaces b ps nothingKept) (set-append-seam xs p ys (placeWith Open x)) in
       subst Reachable (m ∙ n) (step-reachable r (call (OPEN k)))
 
   draft-there : (x : Tariff) → Recorded x → Reached b xs empty ys → Reached b xs (placeWith Draft x) ys
@@ -70,7 +79,7 @@ module _ (b : Book) (xs ys : List Place) (within : length xs < 32) where
 
 -- all places: xs stand already, and ps come in place of as many empty ones
 fill : (b : Book) (xs ps : List Place) → length xs + length ps ≡ 32 → ((i : ℕ) → i < length ps → MayStand (inForce b) (getD ps i beyond))
-    → Reachable (withPlaces b (xs ++ replicate (length ps) empty)) → Reachable (withPlaces b (xs ++ ps))
+    → Has b (xs ++ replicate (length ps) empty) → Has b (xs ++ ps)
 fill b xs [] e h r = r
 fill b xs (p ∷ ps) e h r =
     let ys = replicate (length ps) empty in
@@ -83,25 +92,39 @@ empty-under : (f : Benchmarks) (n : ℕ) → map (under f) (replicate n empty) �
 empty-under f zero = refl
 empty-under f (suc n) = ap (_∷_ empty) (empty-under f n)
 
-sheet-there : (b : Book) → Stands b → Reachable (withPlaces b (replicate 32 empty))
+sheet-there : (b : Book) → Fits b → Reachable (withPlaces b (replicate 32 empty) nothingKept)
 sheet-there b h = go (b .loaded) refl
   where
-    go : (l : Bool) → b .loaded ≡ l → Reachable (withPlaces b (replicate 32 empty))
+    go : (l : Bool) → b .loaded ≡ l → Reachable (withPlaces b (replicate 32 empty) nothingKept)
     go false e =
         let w = h .without-sheet e in
-        let same : withPlaces b (replicate 32 empty) ≡ fresh =
-        λ i. record { loaded = e i; fields = w .0 i; period = w .1 i; benchmarks = w .2 i; places = replicate 32 empty } in
+        let same : withPlaces b (replicate 32 empty) nothingKept ≡ fresh =
+        λ i. record { loaded = e i; fields = w .0 i; period = w .1 i; benchmarks = w .2 i; places = replicate 32 empty; kept = nothingKept } in
         subst Reachable (sym same) fresh-reachable
     go true e =
         let w = h .with-sheet e in
         let s = sheetIn b in
-        let m = made fresh (call (SET s)) accepted (ap (λ c. checked refused c accepted) (w .0)) refl in
-        let same : withPlaces b (replicate 32 empty) ≡ changed fresh (SET s) =
-        λ i. record { loaded = e i; fields = b .fields; period = b .period; benchmarks = w .1 i; places = sym (empty-under (figuresOf s) 32) i } in
-        subst Reachable (m ∙ sym same) (step-reachable fresh-reachable (call (SET s)))
+        let passed = ap (λ c. checked refused c accepted) (w .0) in
+        let m = made fresh (call (SET s)) accepted passed refl in
+        let same : withPlaces b (replicate 32 empty) nothingKept ≡ unkept (changed fresh (SET s)) =
+        λ i. record { loaded = e i; fields = b .fields; period = b .period; benchmarks = w .1 i; places = sym (empty-under (figuresOf s) 32) i; kept = nothingKept } in
+        subst Reachable (sym same) (unkept-reachable (changed fresh (SET s)) (subst Reachable m (step-reachable fresh-reachable (call (SET s)))) s passed)
 
-pub stands-reachable : (b : Book) → Stands b → Reachable b
-stands-reachable b h =
+fits-reachable : (b : Book) → Fits b → Reachable (unkept b)
+unfolding Has
+fits-reachable b h =
     fill b [] (b .places) (omega (arith, h .size))
     (λ i l. h .places (suc i) (in-range (suc i) (omega arith) (omega (arith, h .size))))
-    (subst (λ n. Reachable (withPlaces b (replicate n empty))) (sym (h .size)) (sheet-there b h))
+    (subst (λ n. Has b (replicate n empty)) (sym (h .size)) (sheet-there b h))
+
+pub stands-reachable : (b : Book) → Stands b → Reachable b
+stands-reachable b h = go (b .kept .any) refl
+  where
+    go : (t : Bool) → b .kept .any ≡ t → Reachable b
+    go false e = subst Reachable (ap (λ k. withPlaces b (b .places) k) (sym (h .nothing-kept e))) (fits-reachable b (h .fits))
+    go true e =
+        let w = h .step-kept e in
+        let s = sheetIn b in
+        let passed = h .fits .with-sheet (ap (λ d. d .loaded) (w .1)) .0 in
+        let m = made (restored b) (call (SET s)) accepted (ap (λ c. checked refused c accepted) passed) refl in
+        subst Reachable (m ∙ sym (w .1)) (step-reachable (fits-reachable (restored b) (w .0)) (call (SET s)))

@@ -24,7 +24,7 @@ use Rattle.book.specs.Settling.{emptyCheck}
 use Rattle.book.proofs.Places.{in-range, record-valid}
 use mathlib.Core.Option.{Option}
 use Rattle.stands.specs.Stands.{Recorded, MayStandAs, HoldsValidAs, HoldsValid}
-use Rattle.stands.proofs.Kept.{reachable-stands}
+use Rattle.stands.proofs.Kept.{reachable-fits}
 
 -- a tariff that PUT accepts is valid
 pub recorded-valid : (x : Tariff) → Recorded x → validTariff x ≡ true
@@ -33,10 +33,10 @@ recorded-valid x r = ap validTariff (r .2) ∙ record-valid (r .0) (r .1)
 module _ (b : Book) (from : Reachable b) where
   module _ (loaded : b .loaded ≡ true) where
     pub figures-are : b .benchmarks ≡ figuresOf (sheetIn b)
-    figures-are = reachable-stands b from .with-sheet loaded .1
+    figures-are = reachable-fits b from .with-sheet loaded .1
 
     pub sheet-passed : setCheck (b .fields) (b .period) ≡ Pass
-    sheet-passed = reachable-stands b from .with-sheet loaded .0
+    sheet-passed = reachable-fits b from .with-sheet loaded .0
 
     pub figures-lawful : Lawful (b .benchmarks)
     figures-lawful = subst Lawful (sym figures-are) (lawful (b .fields) (b .period) sheet-passed)
@@ -49,7 +49,7 @@ module _ (b : Book) (from : Reachable b) where
   pub holds-at : (i : ℕ) → i < 32 → HoldsValid (getD (b .places) i beyond)
   holds-at i h =
       let p = getD (b .places) i beyond in
-      holds (inForce b) (p .state) p (reachable-stands b from .places (suc i) (in-range (suc i) (omega arith) (omega arith)))
+      holds (inForce b) (p .state) p (reachable-fits b from .places (suc i) (in-range (suc i) (omega arith) (omega arith)))
 
   -- so a place that is not empty holds a valid one
   filled : (q : State) (x : Tariff) → HoldsValidAs q x → emptyCheck q ≡ Pass → validTariff x ≡ true

@@ -8,6 +8,7 @@ use native.Mathlib.Omega.{arith}
 use lib.Dec.{eqb}
 use lib.ListN.{length-map, length-replicate, getD-replicate}
 use Rattle.laws.proofs.Never.{never}
+use Rattle.refusal.specs.declared.Check.the-variants.{Pass}
 use Rattle.benchmark.specs.Benchmark.{setCheck}
 use Rattle.tariff.specs.declared.Tariff.{Tariff}
 use Rattle.verdict.specs.Cells.{firstOver}
@@ -15,13 +16,14 @@ use Rattle.book.specs.declared.State.{State}
 use Rattle.book.specs.declared.State.the-variants.{Empty, Draft, Open}
 use Rattle.book.specs.declared.Place.{Place}
 use Rattle.book.specs.declared.Book.{Book}
-use Rattle.book.specs.Calls.{Sheet, Act, SET, PUT, OPEN, CLOSE, DROP, accepted, isAccepted, isNone}
+use Rattle.book.specs.Calls.{Sheet, Act, SET, PUT, OPEN, CLOSE, DROP, UNDO, accepted, isAccepted, isNone}
 use Rattle.book.specs.Checks.{Holding, figuresOf, complies, inside, answer}
-use Rattle.book.specs.Book.{empty, tariffIn, withState, fresh, beyond, placeOf, holding, heldIn, held, inForce, bookReadings, withPlace, openIf, stateUnder, under, changed, Reachable}
+use Rattle.book.specs.Book.{empty, tariffIn, withState, nothingKept, fresh, beyond, placeOf, holding, heldIn, held, inForce, bookReadings, withPlace, openIf, stateUnder, under, changed, Reachable}
 use Rattle.book.proofs.Places.{code-range, at-set, length-setPlace, at-map}
-use Rattle.book.proofs.Accepted.{checked-accepted, put-accepted, close-accepted, drop-accepted, open-accepted}
+use Rattle.book.proofs.Accepted.{checked-accepted, need-accepted, put-accepted, close-accepted, drop-accepted, open-accepted}
 use Rattle.book.proofs.Reached.{always}
-use Rattle.stands.specs.Stands.{Recorded, MayOpen, MayStandAs, MayStand, Stands}
+use Rattle.stands.specs.Stands.{Recorded, MayOpen, MayStandAs, MayStand, Fits, Stands}
+use Rattle.stands.proofs.Undone.{fits-unkept, undone}
 
 -- a place that holds something holds the tariff of a record that passes refusal 8, and one that may be open where it is
 pub held-fits : (f : Option Sheet) (s : State) (p : Place) → MayStandAs f s p → (h : Holding) → heldIn s (tariffIn p) ≡ some h
@@ -32,7 +34,6 @@ held-fits f Draft p w h e =
     (w, ap (λ g. g .tariff) same, λ q. never (let z : false ≡ true = ap (λ g. g .isOpen) same ∙ q in cc))
 held-fits f Open p w h e = let same : holding (tariffIn p) true ≡ h = cc in (w .0, ap (λ g. g .tariff) same, λ q. w .1)
 
--- a sheet comes in
 pub none-of : {A : Type 0} (o : Option A) → isNone o ≡ true → o ≡ none
 none-of none e = refl
 none-of (some c) e = never (cc)
@@ -51,8 +52,8 @@ may-open : (f : Option Sheet) (s : Sheet) (x y : Tariff) → f ≡ some s → x 
 may-open f s x y e g h = subst (λ o. MayOpen o x) (sym e) (ap (firstOver (figuresOf s)) g ∙ h)
 
 -- one place is set
-stands-place : (b : Book) (k : ℕ) (p : Place) → Stands b → inside k ≡ true → MayStand (inForce b) p → Stands (withPlace b k p)
-stands-place b k p h r q =
+fits-place : (b : Book) (k : ℕ) (p : Place) → Fits b → inside k ≡ true → MayStand (inForce b) p → Fits (withPlace b k p)
+fits-place b k p h r q =
     record {
       size = length-setPlace (b .places) k p ∙ h .size;
       places = λ j o. subst (MayStand (inForce b)) (sym (at-set (λ d. d) (b .places) p (h .size) k j (code-range k r))) (either j o (eqb k j));
@@ -64,30 +65,46 @@ stands-place b k p h r q =
     either j o true = q
     either j o false = h .places j o
 
--- an accepted call
-stands-changed : (b : Book) → Stands b → (a : Act) → isAccepted (answer (bookReadings b) a) ≡ true → Stands (changed b a)
-stands-changed b h (SET s) e =
+-- a sheet comes in
+fits-set : (b : Book) → Fits b → (s : Sheet) → setCheck (s .fields) (s .period) ≡ Pass → Fits (changed b (SET s))
+fits-set b h s e =
     record {
       size = length-map (b .places) (under (figuresOf s)) ∙ h .size;
       places = λ k o.
           let p = placeOf (b .places) k in
           subst (MayStand (some s)) (sym (at-map (figuresOf s) (b .places) k)) (fits-under (inForce b) s (p .state) p (h .places k o));
       without-sheet = λ l. never (cc);
-      with-sheet = λ l. (checked-accepted (setCheck (s .fields) (s .period)) accepted e .0, refl);
+      with-sheet = λ l. (e, refl);
+    }
+
+-- a book with nothing to take back
+bare : (b : Book) → b .kept ≡ nothingKept → Fits b → Stands b
+bare b e h = record { fits = h; nothing-kept = λ l. e; step-kept = λ l. never (let z : false ≡ true = sym (ap (λ k. k .any) e) ∙ l in cc) }
+
+-- an accepted call
+stands-changed : (b : Book) → Stands b → (a : Act) → isAccepted (answer (bookReadings b) a) ≡ true → Stands (changed b a)
+stands-changed b h (SET s) e =
+    record {
+      fits = fits-set b (h .fits) s (checked-accepted (setCheck (s .fields) (s .period)) accepted e .0);
+      nothing-kept = λ l. never (cc);
+      step-kept = λ l.
+          let back = undone b (h .fits) s in
+          (subst Fits (sym back) (fits-unkept b (h .fits)), ap (λ d. changed d (SET s)) (sym back));
     }
 stands-changed b h (PUT k x) e =
     let f = put-accepted k (held (placeOf (b .places) k)) x e in
-    stands-place b k _ h (f .0) (x, f .1, refl)
+    bare _ refl (fits-place b k _ (h .fits) (f .0) (x, f .1, refl))
 stands-changed b h (OPEN k) e =
     let p = placeOf (b .places) k in
     let f = open-accepted k (held p) (inForce b) e in
-    let r = held-fits (inForce b) (p .state) p (h .places k (f .code)) (f .h) (f .its) in
-    stands-place b k (withState Open p) h (f .code) (r .0, may-open (inForce b) (f .s) (tariffIn p) (f .h .tariff) (f .in-force) (r .1) (f .none-over))
+    let r = held-fits (inForce b) (p .state) p (h .fits .places k (f .code)) (f .h) (f .its) in
+    bare _ refl (fits-place b k (withState Open p) (h .fits) (f .code) (r .0, may-open (inForce b) (f .s) (tariffIn p) (f .h .tariff) (f .in-force) (r .1) (f .none-over)))
 stands-changed b h (CLOSE k) e =
     let p = placeOf (b .places) k in
     let f = close-accepted k (held p) e in
-    stands-place b k (withState Draft p) h (f .0) (held-fits (inForce b) (p .state) p (h .places k (f .0)) (f .1) (f .2) .0)
-stands-changed b h (DROP k) e = stands-place b k empty h (drop-accepted k (held (placeOf (b .places) k)) e) refl
+    bare _ refl (fits-place b k (withState Draft p) (h .fits) (f .0) (held-fits (inForce b) (p .state) p (h .fits .places k (f .0)) (f .1) (f .2) .0))
+stands-changed b h (DROP k) e = bare _ refl (fits-place b k empty (h .fits) (drop-accepted k (held (placeOf (b .places) k)) e) refl)
+stands-changed b h UNDO e = bare _ refl (h .step-kept (need-accepted (b .kept .any) 15 accepted e .0) .0)
 
 fresh-fits : (k : ℕ) → inside k ≡ true → MayStand none (placeOf (fresh .places) k)
 fresh-fits zero o = absurd (omega (arith, code-range 0 o .0))
@@ -95,12 +112,16 @@ fresh-fits (suc i) o = rw (getD-replicate 32 i empty beyond (omega (arith, code-
 
 stands-fresh : Stands fresh
 stands-fresh =
-    record {
+    bare fresh refl
+    (record {
       size = length-replicate 32 empty;
       places = fresh-fits;
       without-sheet = λ l. (refl, refl, refl);
       with-sheet = λ l. never (cc);
-    }
+    })
 
 pub reachable-stands : (b : Book) → Reachable b → Stands b
 reachable-stands b r = always Stands stands-fresh stands-changed b r
+
+pub reachable-fits : (b : Book) → Reachable b → Fits b
+reachable-fits b r = reachable-stands b r .fits

@@ -1,4 +1,6 @@
+pub mod Undone
 pub mod Kept
+pub mod TakenBack
 pub mod InForce
 pub mod Built
 pub mod Exactly

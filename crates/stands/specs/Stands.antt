@@ -15,9 +15,9 @@ use Rattle.book.specs.declared.State.{State}
 use Rattle.book.specs.declared.State.the-variants.{Empty, Draft, Open}
 use Rattle.book.specs.declared.Place.{Place}
 use Rattle.book.specs.declared.Book.{Book}
-use Rattle.book.specs.Calls.{Sheet, Record}
+use Rattle.book.specs.Calls.{Sheet, Record, SET}
 use Rattle.book.specs.Checks.{figuresOf, inside}
-use Rattle.book.specs.Book.{empty, tariffIn, fresh, placeOf, sheetIn, inForce}
+use Rattle.book.specs.Book.{empty, tariffIn, nothingKept, fresh, placeOf, sheetIn, inForce, restored, changed}
 
 -- a tariff that PUT accepts: that of a record that passes refusal 8
 abbrev pub Recorded : Tariff → Type 0
@@ -39,12 +39,18 @@ MayStand s p = MayStandAs s (p .state) p
 
 -- 32 places, each with what may stand there; without a sheet, all beside the places is as in a fresh book; with one, the sheet
 -- passes SET's checks and has its figures beside it
-pub record Stands (b : Book) : Type 0 where
+pub record Fits (b : Book) : Type 0 where
   pub size : length (b .places) ≡ 32
   pub places : (k : ℕ) → inside k ≡ true → MayStand (inForce b) (placeOf (b .places) k)
   pub without-sheet : b .loaded ≡ false
       → (b .fields ≡ fresh .fields) × (b .period ≡ fresh .period) × (b .benchmarks ≡ fresh .benchmarks)
   pub with-sheet : b .loaded ≡ true → (setCheck (b .fields) (b .period) ≡ Pass) × (b .benchmarks ≡ figuresOf (sheetIn b))
+
+-- the same, and what is kept for UNDO is nothing, with zeros; or such a book, which a SET of the sheet in force made into this one
+pub record Stands (b : Book) : Type 0 where
+  pub fits : Fits b
+  pub nothing-kept : b .kept .any ≡ false → b .kept ≡ nothingKept
+  pub step-kept : b .kept .any ≡ true → Fits (restored b) × (b ≡ changed (restored b) (SET (sheetIn b)))
 
 -- what a call that judges a place asks of it: where it holds a tariff, a valid one
 abbrev pub HoldsValidAs : State → Tariff → Type 0

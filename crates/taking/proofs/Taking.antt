@@ -13,9 +13,12 @@ use borrow.Author.Tests.{eqb-true, leb-true, ltb-true, ltb-false, lt-ltb, le-ltb
 use Rattle.laws.proofs.Every.{and-left, and-right}
 use Rattle.laws.proofs.Never.{never}
 use Rattle.bytes.specs.Bytes.{indexOf, indexAfter}
+use Rattle.book.specs.declared.Reply.{Reply}
+use Rattle.book.specs.declared.Place.{Place}
+use Rattle.book.specs.declared.Kept.{Kept}
 use Rattle.book.specs.declared.Book.{Book}
 use Rattle.book.specs.Checks.{inside}
-use Rattle.book.specs.Book.{beyond, Reachable}
+use Rattle.book.specs.Book.{beyond, setPlace, withPlaces, Reachable}
 use Rattle.texts.specs.Writing.{Puts}
 use Rattle.answers.specs.Answers.{answerRoom}
 use Rattle.texts.proofs.Writing.{puts-behind, puts-none}
@@ -24,8 +27,9 @@ use Rattle.request.specs.declared.CodeStep.{CodeStep}
 use Rattle.request.specs.declared.CodeStep.the-variants.{Put, Open, Close, Drop}
 use Rattle.request.specs.declared.Word.the-variants.{On}
 use Rattle.request.specs.Requests.{arity, RightCount}
-use Rattle.protocol.specs.Lines.{lineAt}
-use Rattle.book.specs.Settling.{HasPlace}
+use Rattle.protocol.specs.Lines.{Response, lineAt}
+use Rattle.protocol.specs.Promises.{Answered}
+use Rattle.book.specs.Settling.{keptAfter, storedIn, HasPlace}
 use Rattle.book.proofs.Places.{has-there}
 use Rattle.lines.proofs.Parts.{length-between}
 use Rattle.input.specs.declared.Input.{Input}
@@ -117,6 +121,13 @@ pub has-place : (b : Book) (numbers : List ℕ) (n i : ℕ) → Reachable b → 
 has-place b numbers n i r m h =
     let same = getD-take n numbers 0 0 (omega arith) in
     has-there r (getD (take n numbers) 0 0) i (h .0, subst (λ k. inside k ≡ true → suc i ≡ k) (sym same) (h .1))
+
+-- a call on a code is answered with what is kept for UNDO stored by itself
+pub stored-answered : (b : Book) (i : ℕ) (p : Place) (q : Reply) {line : Response} {k : Kept} {before : List ℕ} {at next : ℕ} {after : List ℕ}
+    → k ≡ keptAfter q (b .kept) → Answered line (storedIn b i p q) before at next after
+    → Answered line (withPlaces b (setPlace (b .places) (suc i) p) k) before at next after
+stored-answered b i p q {line} {k} {before} {at} {next} {after} e a =
+    subst (λ s. Answered line (withPlaces b (setPlace (b .places) (suc i) p) s) before at next after) (sym e) a
 
 -- what the loop of `take_lines` has done so far
 pub record Sofar (b : Book) (lines : ℕ) (i : Input) (input before after : List ℕ) (book : Book) (from : ℕ) (cut : Bool) (l at end : ℕ) : Type 0 where

@@ -35,7 +35,7 @@ fn room(at: usize, size: usize, l: u64) -> bool
 }
 
 // Takes whole lines, as long as there is room for their answers. A call on a code changes one place of the book that stands here, so that
-// the book is copied for SET alone.
+// the book is copied for SET and UNDO alone.
 pub fn take_lines(
     b: Book,
     lines: u64,
@@ -56,13 +56,19 @@ pub fn take_lines(
     let mut end = lines::line_end(input, from, to);
     while end < to && room(at, out.len(), l) {
         l += 1;
-        let said = protocol::say_line(book, input, from, end, cut, l, numbers, out, at);
+        let said = protocol::say_line(input, from, end, cut, l, numbers, out, at);
         match said {
             Said::Answer(next) => {
                 at = next;
             }
             Said::Set(n) => {
                 let after = protocol::do_set(book, &numbers[..n], out, at);
+                at = after.at;
+                let next = after.book;
+                book = next;
+            }
+            Said::Undo => {
+                let after = protocol::do_undo(book, out, at);
                 at = after.at;
                 let next = after.book;
                 book = next;
@@ -75,6 +81,13 @@ pub fn take_lines(
                 at = after.at;
                 let place = after.place;
                 book.places[index] = place;
+                let reply = after.reply;
+                if book::ends_undo(reply, book.kept.any) {
+                    book.kept = book::nothing_kept();
+                }
+            }
+            Said::Tells(query, n) => {
+                at = protocol::do_tell(book, query, &numbers[..n], out, at);
             }
         }
         cut = false;

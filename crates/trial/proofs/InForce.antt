@@ -19,7 +19,7 @@ use Rattle.book.specs.Checks.{figuresOf, isOpen}
 use Rattle.book.specs.Book.{tariffIn, placeOf, heldIn, sheetIf, sheetIn, inForce, openIf, stateUnder, under, Reachable}
 use Rattle.book.proofs.Places.{in-range, at-map}
 use Rattle.stands.specs.Stands.{MayStandAs}
-use Rattle.stands.proofs.Kept.{reachable-stands}
+use Rattle.stands.proofs.Kept.{reachable-fits}
 use Rattle.queries.specs.Queries.{falling}
 use Rattle.trial.specs.Trial.{isDraft, trialOf}
 use Rattle.trial.specs.Places.{fell, fellFrom}
@@ -48,10 +48,10 @@ trial-of-sheet-in-force b s from e =
     w = loaded-by (b .loaded) (sheetIn b) s e
 
     passes : setCheck (s .fields) (s .period) ≡ Pass
-    passes = subst (λ d. setCheck (d .fields) (d .period) ≡ Pass) (w .1) (reachable-stands b from .with-sheet (w .0) .0)
+    passes = subst (λ d. setCheck (d .fields) (d .period) ≡ Pass) (w .1) (reachable-fits b from .with-sheet (w .0) .0)
 
     kept : (i : ℕ) → i < 32 → fellFrom (b .places) after (suc i) ≡ false
     kept i h =
         let p = placeOf (b .places) (suc i) in
         ap (fell p) (at-map (figuresOf s) (b .places) (suc i))
-        ∙ stays s (p .state) p (subst (λ o. MayStandAs o (p .state) p) e (reachable-stands b from .places (suc i) (in-range (suc i) (omega arith) (omega arith))))
+        ∙ stays s (p .state) p (subst (λ o. MayStandAs o (p .state) p) e (reachable-fits b from .places (suc i) (in-range (suc i) (omega arith) (omega arith))))

@@ -18,7 +18,7 @@ use Rattle.book.specs.Checks.{figuresOf, inside}
 use Rattle.book.specs.Book.{tariffIn, placeOf, inForce, changed, Reachable}
 use Rattle.book.proofs.Places.{at-map}
 use Rattle.stands.specs.Stands.{MayStandAs}
-use Rattle.stands.proofs.Kept.{reachable-stands}
+use Rattle.stands.proofs.Kept.{reachable-fits}
 use Rattle.trial.specs.Trial.{falls}
 use Rattle.trial.specs.Places.{fell}
 use Rattle.trial.proofs.InForce.{stays}
@@ -41,4 +41,4 @@ module _ (s t : Sheet) (period : t .period ≡ s .period) (fields : AlikeButSpli
   only-economy-7-falls b from e k i other =
       let p = placeOf (b .places) k in
       ap (fell p) (at-map (figuresOf t) (b .places) k)
-      ∙ stays t (p .state) p (may-stand (p .state) p other (subst (λ o. MayStandAs o (p .state) p) e (reachable-stands b from .places k i)))
+      ∙ stays t (p .state) p (may-stand (p .state) p other (subst (λ o. MayStandAs o (p .state) p) e (reachable-fits b from .places k i)))

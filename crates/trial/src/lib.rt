@@ -55,12 +55,12 @@ pub fn trial(b: Book, fields: &[u32], period: Period) -> Told
     requires { ⌜ Reachable b ⌝ }
     ensures { λ r. ⌜ tellingOf r ≡ trialOf b (sheetAt (now (fields .entry)) period) ⌝ }
 {
-    let judged = setting::judge(b, fields, period);
+    let before = b.places;
+    let judged = setting::judge(before, fields, period);
     let check = judged.check;
     let Check::Pass = check else {
         return queries::refused(check);
     };
-    let before = b.places;
     let after = judged.places;
     Told::Falling(fallen(before, after))
 }

@@ -14,7 +14,7 @@ use Rattle.tariff.specs.Tariff.{tariffOf, standingIn, recordCheck}
 use Rattle.verdict.specs.Cells.{Cell, offered, cellNumbers, Verdict, opens, verdict, verdictAt, firstOver}
 use Rattle.verdict.specs.Cells as cells
 use Rattle.book.specs.declared.Book.{Book}
-use Rattle.book.specs.Calls.{Sheet, Record, Act, SET, PUT, call, Answer, accepted, opened, refused, isAccepted, isNone}
+use Rattle.book.specs.Calls.{Sheet, Record, Act, SET, PUT, UNDO, call, Answer, accepted, opened, refused, isAccepted, isNone}
 use Rattle.book.specs.Checks.{figuresOf, complies, verdictAnswer, setAnswer, answer}
 use Rattle.history.specs.History.{readings, answersAfter}
 use Rattle.laws.specs.Notions.{every, sum, total, tabulate, tabulateFrom, bit}
@@ -22,7 +22,10 @@ use Rattle.calendar.specs.Calendar.{periodDays, monthBegins, lengthAt, monthLen
 use Rattle.sheet.specs.Sheet.{signed, valueOf, round, roundSigned, indexed}
 use Rattle.charge.specs.Charge.{arrangement, tierCharge, charge}
 use Rattle.cap.specs.Cap.{maximum, charged, capped}
-use Rattle.book.specs.Book.{fresh, bookAfter, step, changed}
+use Rattle.book.specs.Book.{fresh, after, bookAfter, step, changed}
+use Rattle.book.proofs.Reached.{fresh-reachable}
+use Rattle.stands.proofs.Undone.{undone}
+use Rattle.stands.proofs.Kept.{reachable-fits}
 use Rattle.queries.specs.Queries.{quotation, quoteOf, cellAllowed, monthsAllowed}
 use Rattle.reference.specs.SheetS.{sheetS, times}
 use Rattle.reference.specs.Splits.{dayDear}
@@ -111,6 +114,11 @@ quotes-told : (quoteOf (afterPut steep) 7 0 1 (300 ∷ 0 ∷ 0 ∷ []) ≡ quota
 unfolding quoteOf cellAllowed monthsAllowed every offered bit cellNumbers standingIn arrangement tierCharge charge maximum charged capped sum total benchmarksOf figures figure tabulate tabulateFrom benchmark wc pc oc nc paenc headroom panc valueOf signed indexed round roundSigned sheetS times periodDays monthBegins lengthAt monthLength leapYear
 quotes-told = (refl, refl, refl)
 
+-- a book whose one SET is taken back
+back-to-fresh : bookOf (SET quarter ∷ UNDO ∷ []) ≡ fresh
+unfolding bookAfter step
+back-to-fresh = ap (λ c. bookAfter (after (checked refused c accepted) fresh (SET quarter)) (call UNDO ∷ [])) (starred .accepted) ∙ undone fresh (reachable-fits fresh fresh-reachable) quarter
+
 -- a tariff with a standing charge of its own in region 5
 pub dear-put : checked refused (recordCheck dearIn5) accepted ≡ accepted
 dear-put = passed (regional .records .2)
@@ -150,6 +158,35 @@ worked =
           (then (passed october-accepted)
           (then (closed-if october dearIn5 _ october-dear)
           (then (closed-if october low _ october-low) (then (opened-if october dearIn5 _ october-dear) ended)))))))));
+      too-early =
+          told
+          (then quarter-set
+          (then (passed close-record)
+          (then low-put
+          (then (ap verdictAnswer (starred .verdicts .just-within))
+          (then low-opens
+          (then (passed october-accepted)
+          (then (closed-if october close _ october-close)
+          (then refl
+          (then refl
+          (then refl
+          (then (passed october-accepted)
+          (then (closed-if october close _ october-close) (then (closed-if october low _ october-low) (then refl ended))))))))))))));
+      one-step =
+          told
+          (then (passed close-record)
+          (then quarter-set
+          (then (passed october-accepted) (then refl (then refl (then (ap verdictAnswer (starred .verdicts .just-within)) ended))))));
+      none-again = told (then refl (then low-put (then quarter-set (then refl (then refl (then quarter-set (then low-opens ended)))))));
+      fresh-again = back-to-fresh;
+      no-step = told (then no-fields-set (then refl (then quarter-set (then refl (then no-fields-set (then refl ended))))));
+      step-stays = told (then quarter-set (then refl (then refl (then refl (then refl (then no-fields-set (then refl ended)))))));
+      step-goes =
+          told
+          (then quarter-set
+          (then low-put
+          (then refl
+          (then quarter-set (then low-opens (then refl (then low-put (then quarter-set (then refl (then refl ended))))))))));
       again = told (then quarter-set (then low-put (then low-opens (then refl (then low-opens ended)))));
       refused-between = told (then quarter-set (then low-put (then low-opens (then no-fields-set (then refl ended)))));
       codes = told (then refl (then refl (then refl (then refl ended))));

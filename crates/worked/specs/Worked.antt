@@ -6,7 +6,7 @@ use lib.IntN.{pos}
 use Prim.Native.Nat.{ℕ}
 use Rattle.verdict.specs.Cells.{cell}
 use Rattle.book.specs.declared.Book.{Book}
-use Rattle.book.specs.Calls.{Sheet, Record, Act, SET, PUT, OPEN, CLOSE, DROP, call, Answer, accepted, opened, refused, over}
+use Rattle.book.specs.Calls.{Sheet, Record, Act, SET, PUT, OPEN, CLOSE, DROP, UNDO, call, Answer, accepted, opened, refused, over}
 use Rattle.book.specs.Book.{fresh, bookAfter}
 use Rattle.queries.specs.Queries.{quotation, quoteOf}
 use Rattle.reference.specs.SheetS.{sheetS, withSplit, periodS, inRegion, flat, tiered}
@@ -65,6 +65,25 @@ pub record Worked : Type 0 where
   -- October's sheet sends back a tariff for what it adds in region 5 alone, and not the same one without it
   pub region-falls : answersTo (SET quarter ∷ PUT 1 dearIn5 ∷ PUT 2 low ∷ OPEN 1 ∷ OPEN 2 ∷ SET october ∷ CLOSE 1 ∷ CLOSE 2 ∷ OPEN 1 ∷ [])
       ≡ accepted ∷ accepted ∷ accepted ∷ opened 28 ∷ opened 28 ∷ accepted ∷ refused 12 ∷ accepted ∷ over (cell 5 1) (0 ∷ []) (pos 286860000000) ∷ []
+  -- M-105. A sheet loaded too early makes one of two open tariffs a draft; UNDO brings it back, and both are open (7); the same sheet later
+  -- makes it a draft again; once the other is closed, there is nothing to take back
+  pub too-early : answersTo (SET quarter ∷ PUT 1 close ∷ PUT 2 low ∷ OPEN 1 ∷ OPEN 2 ∷ SET october ∷ CLOSE 1 ∷ UNDO ∷ OPEN 1 ∷ OPEN 2 ∷ SET october ∷ CLOSE 1 ∷ CLOSE 2 ∷ UNDO ∷ [])
+      ≡ accepted ∷ accepted ∷ accepted ∷ opened 28 ∷ opened 28 ∷ accepted ∷ refused 12 ∷ accepted ∷ refused 7 ∷ refused 7 ∷ accepted ∷ refused 12 ∷ accepted ∷ refused 15 ∷ []
+  -- one step is kept: SET, SET, UNDO, UNDO; and the sheet of the first is in force
+  pub one-step : answersTo (PUT 1 close ∷ SET quarter ∷ SET october ∷ UNDO ∷ UNDO ∷ OPEN 1 ∷ [])
+      ≡ accepted ∷ accepted ∷ accepted ∷ accepted ∷ refused 15 ∷ opened 28 ∷ []
+  -- UNDO of the first SET: no sheet again, and the draft stays
+  pub none-again : answersTo (UNDO ∷ PUT 1 low ∷ SET quarter ∷ UNDO ∷ OPEN 1 ∷ SET quarter ∷ OPEN 1 ∷ [])
+      ≡ refused 15 ∷ accepted ∷ accepted ∷ accepted ∷ refused 10 ∷ accepted ∷ opened 28 ∷ []
+  pub fresh-again : bookOf (SET quarter ∷ UNDO ∷ []) ≡ fresh
+  -- a refused SET makes no step, and leaves none in place of the one before
+  pub no-step : answersTo (SET noFields ∷ UNDO ∷ SET quarter ∷ UNDO ∷ SET noFields ∷ UNDO ∷ [])
+      ≡ refused 1 ∷ refused 15 ∷ accepted ∷ accepted ∷ refused 1 ∷ refused 15 ∷ []
+  -- refused calls leave the step, an accepted PUT, DROP or OPEN takes it away
+  pub step-stays : answersTo (SET quarter ∷ PUT 0 low ∷ OPEN 2 ∷ CLOSE 33 ∷ DROP 2 ∷ SET noFields ∷ UNDO ∷ [])
+      ≡ accepted ∷ refused 6 ∷ refused 9 ∷ refused 6 ∷ refused 9 ∷ refused 1 ∷ accepted ∷ []
+  pub step-goes : answersTo (SET quarter ∷ PUT 1 low ∷ UNDO ∷ SET quarter ∷ OPEN 1 ∷ UNDO ∷ PUT 2 low ∷ SET quarter ∷ DROP 2 ∷ UNDO ∷ [])
+      ≡ accepted ∷ accepted ∷ refused 15 ∷ accepted ∷ opened 28 ∷ refused 15 ∷ accepted ∷ accepted ∷ accepted ∷ refused 15 ∷ []
   -- open, close, open
   pub again : answersTo (SET quarter ∷ PUT 1 low ∷ OPEN 1 ∷ CLOSE 1 ∷ OPEN 1 ∷ []) ≡ accepted ∷ accepted ∷ opened 28 ∷ accepted ∷ opened 28 ∷ []
   -- a refused SET in between changes nothing

@@ -25,6 +25,7 @@ pub enum Refusal {
     NotOpen = 12,
     Argument = 13,
     OcBelowZero = 14,
+    NothingToUndo = 15,
 }
 
 impl Refusal {
@@ -98,10 +99,21 @@ enum Place {
     Open(Tariff),
 }
 
+/// How to take back a SET.
+#[derive(Clone, Debug)]
+struct Step {
+    /// The sheet before it, or none.
+    sheet: Option<Sheet>,
+    /// The places whose open tariffs it made drafts, bit code - 1 for each.
+    fallen: u32,
+}
+
 #[derive(Clone, Debug)]
 pub struct Book {
     sheet: Option<Sheet>,
     places: [Place; PLACES],
+    /// How to take back the last SET, until a call is accepted that changes a place.
+    step: Option<Step>,
 }
 
 impl Default for Book {
@@ -116,16 +128,39 @@ impl Book {
         Book {
             sheet: None,
             places: [Place::Empty; PLACES],
+            step: None,
         }
     }
 
     /// Replaces the sheet; open tariffs that exceed under it become drafts.
     pub fn set(&mut self, year: u32, month: u32, t: u32, fields: &[u32]) -> Result<(), Refusal> {
-        let sheet = self.sheet.insert(Sheet::new(year, month, t, fields)?);
-        for place in &mut self.places {
+        let sheet = Sheet::new(year, month, t, fields)?;
+        let mut fallen = 0;
+        for (index, place) in self.places.iter_mut().enumerate() {
             if let Place::Open(tariff) = place {
                 if sheet.first_breach(tariff).is_some() {
                     *place = Place::Draft(*tariff);
+                    fallen |= 1 << index;
+                }
+            }
+        }
+        self.step = Some(Step {
+            sheet: self.sheet.replace(sheet),
+            fallen,
+        });
+        Ok(())
+    }
+
+    /// Takes back the last SET, if no place has been changed since: the sheet before it, or none,
+    /// is in force again, and what it made drafts is open. One SET can be taken back, and not
+    /// the one before it.
+    pub fn undo(&mut self) -> Result<(), Refusal> {
+        let Step { sheet, fallen } = self.step.take().ok_or(Refusal::NothingToUndo)?;
+        self.sheet = sheet;
+        for (index, place) in self.places.iter_mut().enumerate() {
+            if let Place::Draft(tariff) = place {
+                if fallen >> index & 1 == 1 {
+                    *place = Place::Open(*tariff);
                 }
             }
         }
@@ -154,6 +189,7 @@ impl Book {
             return Err(Refusal::PlaceOpen);
         }
         *place = Place::Draft(Tariff::new(numbers).ok_or(Refusal::Record)?);
+        self.step = None;
         Ok(())
     }
 
@@ -170,6 +206,7 @@ impl Book {
             return Err(NotOpened::OverCap(breach));
         }
         self.places[index] = Place::Open(tariff);
+        self.step = None;
         Ok(tariff.cells())
     }
 
@@ -181,6 +218,7 @@ impl Book {
             Place::Draft(_) => Err(Refusal::NotOpen),
             Place::Open(tariff) => {
                 *place = Place::Draft(tariff);
+                self.step = None;
                 Ok(())
             }
         }
@@ -194,6 +232,7 @@ impl Book {
             Place::Open(_) => Err(Refusal::PlaceOpen),
             Place::Draft(_) => {
                 *place = Place::Empty;
+                self.step = None;
                 Ok(())
             }
         }

@@ -31,7 +31,7 @@ const SILENT: [&[u8]; 8] = [
 ];
 
 /// Lines that have an answer whatever the book holds.
-const ANSWERED: [&[u8]; 10] = [
+const ANSWERED: [&[u8]; 12] = [
     b"open 33",
     b"open",
     b"opens 1",
@@ -42,6 +42,8 @@ const ANSWERED: [&[u8]; 10] = [
     b"put 0000000000000000000000033",
     b"trial 2023 10 3",
     b"trial 2023 10\r",
+    b"undo",
+    b" undo  1\r",
 ];
 
 struct Conversation {
@@ -107,6 +109,9 @@ impl Conversation {
                 lines.push(self.name());
                 if self.line.starts_with(b"trial ") {
                     self.tally.one("trials answered in conversation");
+                }
+                if self.line.starts_with(b"undo\n") {
+                    self.tally.one("undos answered in conversation");
                 }
             }
         }
@@ -261,7 +266,14 @@ impl Conversation {
     fn line_at_the_limit(&mut self) -> Vec<u8> {
         let mut line = self
             .random
-            .pick(&[&b"open 33 "[..], b"#", b"", b"close 1", b"trial 1 2 3"])
+            .pick(&[
+                &b"open 33 "[..],
+                b"#",
+                b"",
+                b"close 1",
+                b"trial 1 2 3",
+                b"undo",
+            ])
             .to_vec();
         let length = LINE_LIMIT - 1 + self.random.index(4);
         line.resize(length, b' ');

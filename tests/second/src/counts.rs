@@ -12,6 +12,7 @@ use crate::tariff::{MONTH_LIMIT, RATE_LIMIT, RECORD, REGIONAL, STANDING_LIMIT, W
 use regions::Quoted;
 use savings::is_saving;
 use trials::Tried;
+use undos::{Before, Last, Undone};
 
 /// What is met in the scripts of one or more books.
 pub struct Counts {
@@ -32,6 +33,14 @@ pub struct Counts {
     at_shares: Vec<(u32, Book)>,
     /// The last call, if it was a quote that was answered, and its region.
     quoted: Option<(Quoted, usize)>,
+    /// What was before the last SET, as long as that can be taken back.
+    chance: Option<Before>,
+    /// The SET that was last taken back, until another is accepted.
+    undone: Option<Undone>,
+    /// The line before, and whether a SET could be taken back before it.
+    last: Option<(Last, bool)>,
+    /// How far the last calls have come in SET, SET, UNDO, UNDO.
+    in_a_row: u32,
     records: [[u32; RECORD]; PLACES],
     used: [bool; PLACES],
     open: [bool; PLACES],
@@ -54,6 +63,10 @@ impl Default for Counts {
             fell_by_share: 0,
             at_shares: Vec::new(),
             quoted: None,
+            chance: None,
+            undone: None,
+            last: None,
+            in_a_row: 0,
             records: [[0; RECORD]; PLACES],
             used: [false; PLACES],
             open: [false; PLACES],
@@ -77,6 +90,7 @@ mod regions;
 mod savings;
 mod splits;
 mod trials;
+mod undos;
 
 impl Counts {
     /// A script begins on a fresh book.
@@ -87,6 +101,10 @@ impl Counts {
         self.fell_by_share = 0;
         self.at_shares.clear();
         self.quoted = None;
+        self.chance = None;
+        self.undone = None;
+        self.last = None;
+        self.in_a_row = 0;
         self.used = [false; PLACES];
         self.open = [false; PLACES];
     }
@@ -94,6 +112,7 @@ impl Counts {
     /// Counts one line and its answer, neither with its line feed; `book` is the book after it.
     pub fn line(&mut self, line: &[u8], answer: &[u8], book: &Book) {
         if answer.is_empty() {
+            self.no_call(Last::PassedOver);
             return self.tally.one("lines passed over");
         }
         let answer = std::str::from_utf8(answer).expect("answers are plain text");
@@ -104,6 +123,7 @@ impl Counts {
             .filter(|word| !word.is_empty());
         let call = words.next().unwrap_or_default();
         if let Some(error) = answer.strip_prefix("error line ") {
+            self.no_call(Last::NoCall);
             let kind = error.split_once(": ").map_or(error, |(_, kind)| kind);
             if kind.ends_with("is not a number from 0 to 4294967295") {
                 count!(
@@ -151,6 +171,8 @@ impl Counts {
         self.under_a_saving(call, refusal, &values);
         self.under_another_split(call, refusal);
         self.after_another_peak_share(call, &numbers, refusal);
+        self.after_undo(call, &numbers, refusal, &values, book);
+        let chance = self.chance.is_some();
         if ["set", "trial"].contains(&call) {
             self.smncc(call, &numbers[3..], refusal);
             self.peak_share(call, &numbers, refusal);
@@ -160,6 +182,7 @@ impl Counts {
         }
         match call {
             "set" => self.set(&numbers, refusal, book),
+            "undo" => self.undo(refusal, book),
             "trial" => self.trial(&numbers, refusal, &values, book),
             "put" if ok => self.put(&numbers),
             "put" if refusal == 8 => self.refused_record(&numbers[1..]),
@@ -176,6 +199,7 @@ impl Counts {
             "quote" => self.quote(&numbers, refusal, &values),
             _ => {}
         }
+        self.after_call(call, refusal, chance);
         self.numbers = numbers;
         self.values = values;
     }
@@ -201,6 +225,8 @@ impl Counts {
         if fallen > 0 {
             self.fall_by_number("set", fallen, &mut book.clone());
         }
+        self.same_set_after_undo(submitted, fallen);
+        self.chance = Some(self.before_set());
         self.in_force = submitted;
         self.fields.clear();
         self.fields.extend(&numbers[3..]);

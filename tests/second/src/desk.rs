@@ -10,6 +10,7 @@ pub const LINE_LIMIT: usize = 16_384;
 #[derive(Clone, Copy)]
 enum Call {
     Set,
+    Undo,
     Trial,
     Put,
     Open,
@@ -24,6 +25,7 @@ impl Call {
     fn from_word(word: &[u8]) -> Option<Call> {
         Some(match word {
             b"set" => Call::Set,
+            b"undo" => Call::Undo,
             b"trial" => Call::Trial,
             b"put" => Call::Put,
             b"open" => Call::Open,
@@ -39,6 +41,7 @@ impl Call {
     fn takes(self) -> &'static str {
         match self {
             Call::Set => "set takes at least 3 numbers",
+            Call::Undo => "undo takes no number",
             Call::Trial => "trial takes at least 3 numbers",
             Call::Put => "put takes at least 1 number",
             Call::Open => "open takes 1 number",
@@ -171,6 +174,7 @@ impl Desk {
             (Call::Set, &[year, month, t, ref fields @ ..]) => {
                 accepted(book.set(year, month, t, fields), out)
             }
+            (Call::Undo, &[]) => accepted(book.undo(), out),
             (Call::Trial, &[year, month, t, ref fields @ ..]) => {
                 match book.trial(year, month, t, fields) {
                     Ok(fallen) => values(&[u64::from(fallen)], out),

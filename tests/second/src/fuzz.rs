@@ -89,8 +89,9 @@ impl Fuzz {
         let mut expected = Vec::new();
         desk.feed(&input, &mut expected);
         desk.finish(&mut expected);
-        let mut lines = input.split(|&byte| byte == b'\n');
-        let trial = lines.any(|line| line.starts_with(b"trial "));
+        let some_line = |test: fn(&[u8]) -> bool| input.split(|&byte| byte == b'\n').any(test);
+        let trial = some_line(|line| line.starts_with(b"trial "));
+        let undo = some_line(|line| line == b"undo");
 
         let ways = ["from a file", "in one write", "in pieces"];
         let way = random.index(ways.len());
@@ -130,6 +131,9 @@ impl Fuzz {
         tally.one("fuzz: cases");
         if trial {
             tally.one("fuzz: inputs with a trial");
+        }
+        if undo {
+            tally.one("fuzz: inputs with an undo");
         }
         tally.one(&format!("fuzz: {sort}"));
         tally.one(&format!("fuzz: inputs read {}", ways[way]));
@@ -278,7 +282,7 @@ impl Case<'_> {
                 line.extend_from_slice(numbers);
             }
             6 => {
-                let calls: [&[u8]; 4] = [b"set", b"put", b"quote", b"trial"];
+                let calls: [&[u8]; 5] = [b"set", b"put", b"quote", b"trial", b"undo"];
                 line.extend_from_slice(self.random.pick(&calls));
                 while line.len() + 11 < length {
                     line.push(b' ');

@@ -13,6 +13,7 @@ mod sheets;
 mod splits;
 mod tariffs;
 mod trials;
+mod undos;
 
 pub use edges::all_periods;
 pub(crate) use savings::SMNCC_EDGES;
@@ -89,10 +90,12 @@ enum Turn {
     FieldEnd,
     Splits,
     Regions,
+    Undo,
+    Undos,
 }
 
 /// Turns of a random script, by weight.
-const TURNS: [(Turn, u64); 15] = [
+const TURNS: [(Turn, u64); 17] = [
     (Turn::Set, 34),
     (Turn::Trial, 24),
     (Turn::Put, 170),
@@ -108,6 +111,8 @@ const TURNS: [(Turn, u64); 15] = [
     (Turn::FieldEnd, 3),
     (Turn::Splits, 8),
     (Turn::Regions, 12),
+    (Turn::Undo, 20),
+    (Turn::Undos, 9),
 ];
 
 /// Turns of a speed script: one in a hundred is a sheet.
@@ -159,6 +164,8 @@ pub struct Writer {
     /// A book with the same sheet, for trying tariffs out at code 1.
     scratch: Book,
     sheet: Dated,
+    /// The sheet before the last SET that was taken.
+    before: Dated,
     records: [Option<[u32; RECORD]>; 32],
     breach: Option<(u32, Breach)>,
     /// Odd spacing, zeros and line ends.
@@ -166,7 +173,7 @@ pub struct Writer {
     /// Calls to be written.
     limit: usize,
     calls: usize,
-    /// Calls at the start that are made without a sheet.
+    /// Calls at the start that are made without a sheet, but for those that are taken back.
     bare: usize,
     /// The field to be spoilt next; they take their turns.
     spoilt: usize,
@@ -194,7 +201,10 @@ impl Iterator for Writer {
         while self.text.len() < PART && self.calls < self.limit {
             self.noise();
             match turn(&mut self.random, &TURNS) {
-                // A while without a sheet; whatever SET is called now is refused.
+                // A while without a sheet; whatever SET is called now is refused or taken back.
+                Turn::Set if self.calls < self.bare && self.random.one_in(3) => {
+                    self.first_sheet_taken_back();
+                }
                 Turn::Set if self.calls < self.bare => {
                     let mut dated = self.good_sheet();
                     self.spoil(&mut dated);
@@ -296,6 +306,7 @@ impl Writer {
             book: Book::new(),
             scratch,
             sheet: reference(),
+            before: reference(),
             records: [None; 32],
             breach: None,
             quirks: false,
@@ -381,7 +392,18 @@ impl Writer {
         self.call("set", &dated.numbers());
         if self.book.set_dated(dated).is_ok() {
             self.scratch.set_dated(dated).expect("a sheet taken before");
-            self.sheet = dated.clone();
+            self.before = std::mem::replace(&mut self.sheet, dated.clone());
+            self.breach = None;
+        }
+    }
+
+    fn undo(&mut self) {
+        self.call("undo", &[]);
+        if self.book.undo().is_ok() {
+            // For the first sheet it is the reference sheet again.
+            self.sheet = self.before.clone();
+            let set = self.scratch.set_dated(&self.sheet);
+            set.expect("a sheet taken before");
             self.breach = None;
         }
     }
@@ -455,6 +477,8 @@ impl Writer {
             Turn::FieldEnd => self.end_of_a_field(),
             Turn::Splits => self.splits(),
             Turn::Regions => self.regions(),
+            Turn::Undo => self.undo(),
+            Turn::Undos => self.undos(),
             Turn::Benchmark | Turn::Maximum | Turn::Quote => {
                 if self.random.one_in(4) {
                     self.take_odd(turn);
@@ -592,6 +616,9 @@ impl Writer {
             }
         }
         self.set(&dated);
+        if self.random.one_in(10) {
+            self.undo();
+        }
     }
 
     fn any_put(&mut self) {

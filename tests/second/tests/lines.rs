@@ -91,6 +91,43 @@ fn answers_of_trial() {
     );
 }
 
+/// The reference sheet is loaded, then one under which code 1 falls and code 2 does not.
+#[test]
+fn answers_of_undo() {
+    let set = reference_line();
+    let october = set.replace(" 10 3 ", " 10 1 ");
+    let mut input = "undo\n".to_string();
+    input.push_str(&set);
+    input.push_str("undo\nbenchmark 0 0 1 0\nundo\n");
+    input.push_str(&set);
+    input.push_str(
+        "put 1 1 1 23960 16383 3 18000 0 0 0 0 0 0 0 0 0 0 0 0 0 0 0 0 0 0 0 0 0\nopen 1\n",
+    );
+    input.push_str(
+        "put 2 1 1 23000 16383 3 18000 0 0 0 0 0 0 0 0 0 0 0 0 0 0 0 0 0 0 0 0 0\nopen 2\n",
+    );
+    input.push_str("undo\n");
+    input.push_str(&october);
+    input.push_str("open 1\nopen 2\n   undo   \r\nopen 1\nquote 1 0 1 0 0 0\n");
+    input.push_str(&october);
+    input.push_str("close 2\nundo\nopen 1\n");
+    input.push_str(&set);
+    input.push_str(&october);
+    input.push_str("undo 1\nundo x\nundo\nundo\nclose 1\nopen 1");
+    assert_eq!(
+        run(input.as_bytes()),
+        "refused 15\n\
+         ok\nok\nrefused 10\nrefused 15\n\
+         ok\nok\nok 28\nok\nok 28\nrefused 15\n\
+         ok\nrefused 11 0 1 286860000000 0\nrefused 7\nok\nrefused 7\n\
+         ok 79355520000000 79357500000000\n\
+         ok\nok\nrefused 15\nrefused 11 0 1 286860000000 0\n\
+         ok\nok\nerror line 24: undo takes no number\n\
+         error line 25: word 2 is not a number from 0 to 4294967295\n\
+         ok\nrefused 15\nrefused 12\nok 28\n"
+    );
+}
+
 /// SMNCC is word 41, in two's complement: 4,294,467,296 is -500,000.
 #[test]
 fn a_saving_is_written_without_a_sign() {
@@ -137,6 +174,23 @@ fn lines_that_are_no_calls() {
         ("trials 2023 10 3", "unknown call"),
         ("tria 2023 10 3", "unknown call"),
         ("trial# 2023 10 3", "unknown call"),
+        ("undo 0", "undo takes no number"),
+        ("undo 5", "undo takes no number"),
+        ("undo 1 2 3", "undo takes no number"),
+        ("  undo   4294967295 ", "undo takes no number"),
+        ("undo x", "word 2 is not a number from 0 to 4294967295"),
+        ("undo -1", "word 2 is not a number from 0 to 4294967295"),
+        ("undo 5 #", "word 3 is not a number from 0 to 4294967295"),
+        (
+            "undo 4294967296",
+            "word 2 is not a number from 0 to 4294967295",
+        ),
+        ("UNDO", "unknown call"),
+        ("undos", "unknown call"),
+        ("und", "unknown call"),
+        ("undo1", "unknown call"),
+        ("undo#", "unknown call"),
+        ("undo\t", "unknown call"),
         ("put", "put takes at least 1 number"),
         ("benchmark 0 0 0", "benchmark takes 4 numbers"),
         ("benchmark 0 0 0 0 0", "benchmark takes 4 numbers"),

@@ -3,46 +3,12 @@
 
 mod common;
 
-use common::{reference, reference_book, tariff};
+use common::{number, reference, reference_book, seen, tariff, two_open};
 use second::{Book, Quote, Refusal, State};
-
-fn number<T>(answer: Result<T, Refusal>) -> u32 {
-    match answer {
-        Ok(_) => 0,
-        Err(refusal) => refusal.number(),
-    }
-}
-
-/// The reference sheet in force, and two flat tariffs open: 23,960 and 23,000 a day.
-fn two_open() -> Book {
-    let mut book = reference_book();
-    for (code, standing) in [(1, 23_960), (2, 23_000)] {
-        book.put(code, &tariff(1, standing, &[18_000], &[]))
-            .unwrap();
-        assert_eq!(book.open(code), Ok(28));
-    }
-    book
-}
 
 /// The codes of a set.
 fn codes(set: u32) -> Vec<u32> {
     (1..=32).filter(|code| set >> (code - 1) & 1 == 1).collect()
-}
-
-/// What can be seen of a book: each place, its sheet, and what each used place costs under it.
-fn seen(book: &Book) -> impl PartialEq + std::fmt::Debug {
-    let benchmarks: Vec<_> = (0..112)
-        .map(|i| book.benchmark(i / 8, i / 4 % 2, i / 2 % 2, i % 2))
-        .collect();
-    let maximum = book.maximum(0, 0, 1, 300);
-    let places: Vec<_> = (1..=32)
-        .map(|code| {
-            let t = book.t().unwrap_or(0) as usize;
-            let quote = book.quote(code, 0, 1, &vec![100; t]);
-            (book.state(code), quote)
-        })
-        .collect();
-    (benchmarks, maximum, places)
 }
 
 /// Bit code - 1 for each open code that is a draft after SET on a copy.

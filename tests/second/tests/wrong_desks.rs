@@ -286,6 +286,60 @@ fn random_calls_find_what_is_wrong_with_the_record_of_a_tariff() {
 }
 
 #[test]
+fn random_calls_find_what_is_wrong_with_an_undo() {
+    all_found(
+        &[
+            (
+                "undo: 15 to every undo",
+                "expected: ok\n  answered: refused 15",
+            ),
+            ("undo: no refusal", "expected: refused 15\n  answered: ok"),
+            ("undo: what fell stays a draft", "expected: "),
+            ("undo: of what fell one stays a draft", "expected: "),
+            ("undo: drafts are opened", "expected: "),
+            ("undo: the first sheet stays in force", "expected: "),
+            ("undo: the new sheet is kept", "expected: "),
+            ("undo: the new period is kept", "expected: "),
+            ("undo: the new fields are kept", "expected: "),
+            ("undo: the book is emptied", "expected: "),
+            (
+                "undo: two steps are kept",
+                "expected: refused 15\n  answered: ok",
+            ),
+            (
+                "undo: a chance is left",
+                "expected: refused 15\n  answered: ok",
+            ),
+        ],
+        first_seed_answered,
+    );
+    // The copies of the book by which the others go wrong are not what is found.
+    first_seed(&wrong("undo: nothing is wrong")).unwrap();
+}
+
+#[test]
+fn random_calls_find_a_chance_to_undo_that_lasts_too_long_or_not_long_enough() {
+    let taken = "expected: refused 15\n  answered: ok";
+    let refused = "expected: ok\n  answered: refused 15";
+    for call in ["put", "open", "close", "drop"] {
+        let fault = format!("undo: the chance survives an accepted {call}");
+        all_found(&[(&fault, taken)], first_seed_answered);
+    }
+    for call in ["put", "open", "close", "drop", "set", "trial", "quote"] {
+        let fault = format!("undo: the chance ends by a refused {call}");
+        all_found(&[(&fault, refused)], first_seed_answered);
+        let fault = format!("undo: a refused {call} makes a chance");
+        all_found(&[(&fault, taken)], first_seed_answered);
+    }
+    for call in ["trial", "benchmark", "maximum", "quote"] {
+        let fault = format!("undo: the chance ends by an accepted {call}");
+        all_found(&[(&fault, refused)], first_seed_answered);
+        let fault = format!("undo: an accepted {call} makes a chance");
+        all_found(&[(&fault, taken)], first_seed_answered);
+    }
+}
+
+#[test]
 fn the_comparison_ends_whatever_the_program_does() {
     let parts: [Part; 3] = [fixed_conversations, fixed_fuzz, first_seed];
     for fault in [

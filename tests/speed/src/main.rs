@@ -2,7 +2,7 @@
 //!
 //!     speed MEASUREMENT CALLS
 //!
-//! makes that many calls of one kind and prints the checksum of their answers; with a measurement above 6, of all seven in turn.
+//! makes that many calls of one kind and prints the checksum of their answers; with a measurement above 7, of all eight in turn.
 //! It also sees to it that the calls are what the measurement's name says, outside of what is timed.
 
 use second::{Book, NotOpened, Refusal, State, RECORD, REGIONAL};
@@ -236,11 +236,31 @@ fn sets(n: u64) -> u64 {
         let (year, month) = redraw(&mut sheet, &mut x);
         sum.fold_done(book.set(year, month, 12, &sheet));
     }
-    assert_eq!(open_in(&book), 32);
+    fold_closed(&mut book, &mut sum);
+    sum.0
+}
+
+/// Closes all 32 tariffs and asks for as many benchmarks.
+fn fold_closed(book: &mut Book, sum: &mut Sum) {
+    assert_eq!(open_in(book), 32);
     for k in 0..32 {
         sum.fold_done(book.close(k + 1));
         sum.fold_benchmark(book.benchmark(k % 14, k % 2, k / 2 % 2, k / 4 % 2));
     }
+}
+
+/// The sheets of `sets`, each of them taken back.
+fn undos(n: u64) -> u64 {
+    let mut book = with_open();
+    let mut sheet = SHEET;
+    let mut x = Generator(1);
+    let mut sum = Sum(0);
+    for _ in 0..n {
+        let (year, month) = redraw(&mut sheet, &mut x);
+        sum.fold_done(book.set(year, month, 12, &sheet));
+        sum.fold_done(book.undo());
+    }
+    fold_closed(&mut book, &mut sum);
     sum.0
 }
 
@@ -341,7 +361,8 @@ fn measured(measurement: u64, calls: u64) -> u64 {
         4 => benchmarks(calls),
         5 => trials(calls),
         // There the book is handed to each call and back; here it stands behind a `&mut` as before.
-        _ => opens(calls),
+        6 => opens(calls),
+        _ => undos(calls),
     }
 }
 
@@ -354,11 +375,11 @@ fn main() {
         eprintln!("usage: speed MEASUREMENT CALLS");
         std::process::exit(2);
     };
-    if measurement < 7 {
+    if measurement < 8 {
         println!("{}", measured(measurement, calls));
         return;
     }
-    for each in 0..7 {
+    for each in 0..8 {
         println!("{}", measured(each, calls));
     }
 }

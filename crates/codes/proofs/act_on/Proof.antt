@@ -19,18 +19,16 @@ settle-requires : tie.Need-settle-requires
 settle-requires c κs =
     let st = c .before .before .before in
     let i = c .before .before .index-of in
-    judgeable (st .args .act) (st .args .b) (i .result) (i .ensures .0) (st .pre)
+    judgeable (st .args .act) (st .args .t1) (i .result) (i .ensures .0) (st .pre)
 
-mul-place : tie.Need-mul-place
-mul-place c = search needs
-
-element-set-from-place : tie.Need-element-set-from-place
-element-set-from-place c = search needs
+stored-requires : tie.Need-stored-requires
+stored-requires c κs = c .before .before .before .index-of .ensures .0
 
 returns : tie.Need-returns
 returns c =
-    let st = c .before .before .before .before .before .before in
-    act-does (st .args .b) _ _ _ (c .before .before .before .before .before .index-of .ensures .1) refl (st .args .act) _ (st .pre) (c .before .before .settle .ensures .0)
+    let i = c .before .before .before .before in
+    let st = i .before in
+    rw (c .stored .ensures) (act-does (st .args .t1) _ _ _ (i .index-of .ensures .1) refl (st .args .act) _ (st .pre) (c .before .settle .ensures .0))
 
 pub act-on-spec : {M : Type 1} → statement M
 act-on-spec =
@@ -40,6 +38,5 @@ act-on-spec =
     mul-p
     element-copy-out-p
     settle-requires
-    mul-place
-    element-set-from-place
+    stored-requires
     returns)

@@ -18,14 +18,11 @@ element-copy-out-p c = search needs
 put-at-requires : tie.Need-put-at-requires
 put-at-requires c κs = search needs
 
-mul-place : tie.Need-mul-place
-mul-place c = search needs
-
-element-set-from-place : tie.Need-element-set-from-place
-element-set-from-place c = search needs
+stored-requires : tie.Need-stored-requires
+stored-requires c κs = c .before .before .index-of .ensures .0
 
 returns : tie.Need-returns
-returns c = put-does _ _ _ _ (c .before .before .before .before .index-of .ensures .1) refl _ _ (c .before .before .put-at .ensures .0)
+returns c = rw (c .stored .ensures) (put-does _ _ _ _ (c .before .before .before .index-of .ensures .1) refl _ _ (c .before .put-at .ensures .0))
 
 pub put-spec : {M : Type 1} → statement M
 put-spec =
@@ -35,6 +32,5 @@ put-spec =
     mul-p
     element-copy-out-p
     put-at-requires
-    mul-place
-    element-set-from-place
+    stored-requires
     returns)

@@ -1,10 +1,9 @@
--- `protocol::say` meets its contract: a problem, a call to do or a query, by the request and its word.
+-- `protocol::say` meets its contract: a problem, or a call to do, by the request and its word.
 -- Assumes nothing.
-use mathlib.Core.Path.{refl, sym}
-use lib.Seq.{length-take-le}
+use mathlib.Core.Path.{refl}
 use borrow.Author.Needs.{needs}
 use Rattle.request.specs.Requests.{Ready}
-use Rattle.protocol.proofs.Lines.{says-problem, says-to-do, says-told}
+use Rattle.protocol.proofs.Lines.{says-problem, says-to-do}
 use Rattle.protocol.proofs.say.Statement.{statement}
 use Rattle.protocol.proofs.say.Tie as tie
 
@@ -28,10 +27,13 @@ same-length-2 : tie.Need-same-length-2
 same-length-2 c = search needs
 
 returns : tie.Need-returns
-returns c = says-problem _ (c .before .before .before .before .before .before .before .before .before .before .before .before .pre .0) _ _ (c .before .before .before .before .before .before .before .request-of .last .1 .0) _ _ _ (c .before .before .before .before .before .before .before .request-of .result) _ (c .before .before .before .before .before .before .before .request-of .ensures .0) (c .before .before .before .before .match .keys2) (c .before .before .put-problem .ensures)
+returns c = λ b reach. says-problem b reach _ _ (c .before .before .before .before .before .before .before .request-of .last .1 .0) _ _ _ (c .before .before .before .before .before .before .before .request-of .result) _ (c .before .before .before .before .before .before .before .request-of .ensures .0) (c .before .before .before .before .match .keys2) (c .before .before .put-problem .ensures)
 
 enum-told : tie.Need-enum-told
 enum-told c = search needs
+
+enum-told-2 : tie.Need-enum-told-2
+enum-told-2 c = search needs
 
 enum-known-word : tie.Need-enum-known-word
 enum-known-word c = search needs
@@ -39,40 +41,31 @@ enum-known-word c = search needs
 enum-known-word-2 : tie.Need-enum-known-word-2
 enum-known-word-2 c = search needs
 
-slice-reshare-prefix-told : tie.Need-slice-reshare-prefix-told
-slice-reshare-prefix-told c = ready (c .before .before .before) .within
-
-slice-aggregate-told : tie.Need-slice-aggregate-told
-slice-aggregate-told c = sym (length-take-le _ _ (ready (c .before .before .before .before) .within))
-
-told-requires : tie.Need-told-requires
-told-requires c κs =
-    let r = ready (c .before .before .before .before) in
-    (c .before .before .before .before .before .before .before .before .before .before .before .before .before .before .pre .0, rw (length-take-le (c .before .before .before .before .before .asked .given .0 .1 .0) (c .before .before .before .before .before .before .before .before .before .request-of .last .1 .0) (r .within)) (rw (c .before .before .word2 .given .1) at (r .right)))
-
-put-told-requires : tie.Need-put-told-requires
-put-told-requires c κs = search needs
-
 same-length-3 : tie.Need-same-length-3
 same-length-3 c = search needs
 
 returns-2 : tie.Need-returns-2
-returns-2 c = says-to-do _ (c .before .before .before .before .before .before .before .before .before .before .before .before .pre .0) _ _ _ (c .before .before .before .before .before .before .before .before .before .before .before .before .args .at) _ _ _ _ _ _ (c .before .before .before .before .before .before .before .request-of .ensures .0) (c .before .before .before .asked .given .1) (c .enum-told .given .1) (ready (c .before .before)) refl
+returns-2 c = λ b reach. says-to-do b reach _ _ _ (c .before .before .before .before .before .before .before .before .before .before .before .before .args .at) _ _ _ _ _ _ (c .before .before .before .before .before .before .before .request-of .ensures .0) (c .before .before .before .asked .given .1) (c .enum-told .given .1) (ready (c .before .before)) refl
 
 same-length-4 : tie.Need-same-length-4
 same-length-4 c = search needs
 
 returns-3 : tie.Need-returns-3
-returns-3 c = says-to-do _ (c .before .before .before .before .before .before .before .before .before .before .before .before .before .pre .0) _ _ _ (c .before .before .before .before .before .before .before .before .before .before .before .before .before .args .at) _ _ _ _ _ _ (c .before .before .before .before .before .before .before .before .request-of .ensures .0) (c .before .before .before .before .asked .given .1) (c .before .word .given .1) (ready (c .before .before .before)) refl
+returns-3 c = λ b reach.
+    let to-do = says-to-do b reach _ _ _ (c .before .before .before .before .before .before .before .before .before .before .before .before .args .at) _ _ _ _ _ _ (c .before .before .before .before .before .before .before .request-of .ensures .0) (c .before .before .before .asked .given .1) (c .enum-told2 .given .1) (ready (c .before .before)) refl in
+    (to-do .0, to-do .3)
 
 same-length-5 : tie.Need-same-length-5
 same-length-5 c = search needs
 
+returns-4 : tie.Need-returns-4
+returns-4 c = λ b reach. says-to-do b reach _ _ _ (c .before .before .before .before .before .before .before .before .before .before .before .before .before .args .at) _ _ _ _ _ _ (c .before .before .before .before .before .before .before .before .request-of .ensures .0) (c .before .before .before .before .asked .given .1) (c .before .word .given .1) (ready (c .before .before .before)) refl
+
 same-length-6 : tie.Need-same-length-6
 same-length-6 c = search needs
 
-returns-4 : tie.Need-returns-4
-returns-4 c = says-told _ (c .before .before .before .before .before .before .before .before .before .before .before .before .before .before .before .before .before .before .before .pre .0) _ _ _ _ _ _ _ _ _ _ _ _ (c .before .before .before .before .before .before .before .before .before .before .before .before .before .before .request-of .ensures .0) (c .before .before .before .before .before .before .before .before .before .before .asked .given .1) (c .before .before .before .before .before .before .before .word2 .given .1) (ready (c .before .before .before .before .before .before .before .before .before)) (c .before .before .before .before .told .ensures) (c .before .before .put-told .ensures)
+returns-5 : tie.Need-returns-5
+returns-5 c = λ b reach. says-to-do b reach _ _ _ (c .before .before .before .before .before .before .before .before .before .before .before .before .before .args .at) _ _ _ _ _ _ (c .before .before .before .before .before .before .before .before .request-of .ensures .0) (c .before .before .before .before .asked .given .1) (c .before .word2 .given .1) (ready (c .before .before .before)) refl
 
 pub say-spec : {M : Type 1} → statement M
 say-spec =
@@ -85,16 +78,14 @@ say-spec =
     same-length-2
     returns
     enum-told
+    enum-told-2
     enum-known-word
     enum-known-word-2
-    slice-reshare-prefix-told
-    slice-aggregate-told
-    told-requires
-    put-told-requires
     same-length-3
     returns-2
     same-length-4
     returns-3
     same-length-5
+    returns-4
     same-length-6
-    returns-4)
+    returns-5)

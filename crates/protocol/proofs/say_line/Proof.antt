@@ -16,7 +16,7 @@ same-length : tie.Need-same-length
 same-length c = search needs
 
 returns : tie.Need-returns
-returns c = let st = c .before .before .before .before .before .before .before .before in rw (cut-line _ (st .args .l) _ (between (st .args .input .now) (st .args .from) (st .args .to)) (c .before .before .before .before .if1 .taken)) (record { book = refl; reachable = st .pre .0; text = c .before .before .put-too-long .ensures })
+returns c = λ b reach. let st = c .before .before .before .before .before .before .before .before in rw (cut-line b (st .args .l) _ (between (st .args .input .now) (st .args .from) (st .args .to)) (c .before .before .before .before .if1 .taken)) (record { book = refl; reachable = reach; text = c .before .before .put-too-long .ensures })
 
 sub-if2 : tie.Need-sub-if2
 sub-if2 c = search needs
@@ -28,10 +28,10 @@ same-length-2 : tie.Need-same-length-2
 same-length-2 c = search needs
 
 returns-2 : tie.Need-returns-2
-returns-2 c =
+returns-2 c = λ b reach.
     let st = c .before .before .before .before .before .before .before .before .before in
-    let size = length-between (st .args .input .now) (st .args .from) (st .args .to) (st .pre .2) in
-    rw (long-line (st .args .b) (st .args .l) (st .args .cut) (between (st .args .input .now) (st .args .from) (st .args .to)) (c .before .before .before .before .before .if1 .left) (omega (arith, size))) (record { book = refl; reachable = st .pre .0; text = c .before .before .put-too-long2 .ensures })
+    let size = length-between (st .args .input .now) (st .args .from) (st .args .to) (st .pre .1) in
+    rw (long-line b (st .args .l) (st .args .cut) (between (st .args .input .now) (st .args .from) (st .args .to)) (c .before .before .before .before .before .if1 .left) (omega (arith, size))) (record { book = refl; reachable = reach; text = c .before .before .put-too-long2 .ensures })
 
 without-return-requires : tie.Need-without-return-requires
 without-return-requires c κs = search needs
@@ -55,11 +55,11 @@ same-length-4 : tie.Need-same-length-4
 same-length-4 c = search needs
 
 returns-3 : tie.Need-returns-3
-returns-3 c =
+returns-3 c = λ b reach.
     let st = c .before .before .before .before .before .before .before .before .before .before .before .before .before .before in
-    let size = length-between (st .args .input .now) (st .args .from) (st .args .to) (st .pre .2) in
-    rw (short-line (st .args .b) (st .args .l) (st .args .cut) (between (st .args .input .now) (st .args .from) (st .args .to)) (c .before .before .before .before .before .before .before .before .before .before .if1 .left) (omega (arith, size)))
-    (rw (c .before .before .before .before .before .before .before .before .without-return .ensures .0) at (c .before .before .before .before .say .ensures))
+    let size = length-between (st .args .input .now) (st .args .from) (st .args .to) (st .pre .1) in
+    rw (short-line b (st .args .l) (st .args .cut) (between (st .args .input .now) (st .args .from) (st .args .to)) (c .before .before .before .before .before .before .before .before .before .before .if1 .left) (omega (arith, size)))
+    (rw (c .before .before .before .before .before .before .before .before .without-return .ensures .0) at (c .before .before .before .before .say .ensures b reach))
 
 pub say-line-spec : {M : Type 1} → statement M
 say-line-spec =

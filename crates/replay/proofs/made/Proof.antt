@@ -27,19 +27,27 @@ put-to-requires c κs =
 returns-2 : tie.Need-returns-2
 returns-2 c = rw (c .before .if2 .taken) (c .put-to .ensures)
 
-shared-slice-read-act-on : tie.Need-shared-slice-read-act-on
-shared-slice-read-act-on c = search needs
+undo-requires : tie.Need-undo-requires
+undo-requires c κs = search needs
+
+returns-3 : tie.Need-returns-3
+returns-3 c =
+    let at = c .before in
+    rw (at .if3 .taken) (c .undo .ensures)
+
+number-at-requires : tie.Need-number-at-requires
+number-at-requires c κs = search needs
 
 code-act-requires : tie.Need-code-act-requires
 code-act-requires c κs = search needs
 
 act-on-requires : tie.Need-act-on-requires
-act-on-requires c κs = handed (c .before .before .before .before .before .before .pre .0) (c .code-act .result)
+act-on-requires c κs = handed (c .before .before .before .before .before .before .before .pre .0) (c .code-act .result)
 
-returns-3 : tie.Need-returns-3
-returns-3 c =
+returns-4 : tie.Need-returns-4
+returns-4 c =
     let at = c .before .before .before in
-    rw (ne-eqb _ 0 (at .before .if1 .left), ne-eqb _ 1 (at .if2 .left), ← c .before .code-act .ensures) (c .act-on .ensures)
+    rw (ne-eqb _ 0 (at .before .before .if1 .left), ne-eqb _ 1 (at .before .if2 .left), ne-eqb _ 5 (at .if3 .left), ← c .before .code-act .ensures, ← c .before .before .number-at .ensures) (c .act-on .ensures)
 
 pub made-spec : {M : Type 1} → statement M
 made-spec =
@@ -50,7 +58,9 @@ made-spec =
     returns
     put-to-requires
     returns-2
-    shared-slice-read-act-on
+    undo-requires
+    returns-3
+    number-at-requires
     code-act-requires
     act-on-requires
-    returns-3)
+    returns-4)

@@ -3,7 +3,7 @@
 use mathlib.Core.Path.{_∙_}
 use Rattle.request.specs.declared.CodeStep.the-variants.{Put, Open, Close, Drop}
 use Rattle.request.specs.declared.Query.the-variants.{Benchmark, Maximum, Quote}
-use Rattle.request.specs.declared.Word.the-variants.{Set, On, Tells}
+use Rattle.request.specs.declared.Word.the-variants.{Set, Undo, On, Tells}
 use Rattle.request.proofs.Names.{first-alone, last-call}
 use Rattle.request.proofs.beginning.Statement.{statement}
 use Rattle.request.proofs.beginning.Tie as tie
@@ -33,11 +33,14 @@ returns-8 : tie.Need-returns-8
 returns-8 c w e = first-alone w Set (e ∙ c .match .keys8)
 
 returns-9 : tie.Need-returns-9
-returns-9 c w e =
+returns-9 c w e = first-alone w Undo (e ∙ c .match .keys9)
+
+returns-10 : tie.Need-returns-10
+returns-10 c w e =
     let r = c .match .rest in
-    last-call (c .before .args .first) (r .0 .0 .0 .0 .0 .0 .0 .1) (r .0 .0 .0 .0 .0 .0 .1) (r .0 .0 .0 .0 .0 .1) (r .0 .0 .0 .0 .1) (r .0 .0 .0 .1) (r .0 .0 .1) (r .0 .1) (r .1) w e
+    last-call (c .before .args .first) (r .0 .0 .0 .0 .0 .0 .0 .0 .1) (r .0 .0 .0 .0 .0 .0 .0 .1) (r .0 .0 .0 .0 .0 .0 .1) (r .0 .0 .0 .0 .0 .1) (r .0 .0 .0 .0 .1) (r .0 .0 .0 .1) (r .0 .0 .1) (r .0 .1) (r .1) w e
 
 pub beginning-spec : {M : Type 1} → statement M
 beginning-spec =
     tie.close
-    (tie.spec returns returns-2 returns-3 returns-4 returns-5 returns-6 returns-7 returns-8 returns-9)
+    (tie.spec returns returns-2 returns-3 returns-4 returns-5 returns-6 returns-7 returns-8 returns-9 returns-10)

@@ -10,14 +10,14 @@ enum-told c = search needs
 formed-requires : tie.Need-formed-requires
 formed-requires c κs = search needs
 
-enum-known-word : tie.Need-enum-known-word
-enum-known-word c = search needs
-
 enum-told-2 : tie.Need-enum-told-2
 enum-told-2 c = search needs
 
 formed-requires-2 : tie.Need-formed-requires-2
 formed-requires-2 c κs = search needs
+
+enum-known-word : tie.Need-enum-known-word
+enum-known-word c = search needs
 
 enum-told-3 : tie.Need-enum-told-3
 enum-told-3 c = search needs
@@ -37,14 +37,14 @@ enum-told-5 c = search needs
 formed-requires-5 : tie.Need-formed-requires-5
 formed-requires-5 c κs = search needs
 
-enum-known-word-2 : tie.Need-enum-known-word-2
-enum-known-word-2 c = search needs
-
 enum-told-6 : tie.Need-enum-told-6
 enum-told-6 c = search needs
 
 formed-requires-6 : tie.Need-formed-requires-6
 formed-requires-6 c κs = search needs
+
+enum-known-word-2 : tie.Need-enum-known-word-2
+enum-known-word-2 c = search needs
 
 enum-told-7 : tie.Need-enum-told-7
 enum-told-7 c = search needs
@@ -64,11 +64,17 @@ enum-told-9 c = search needs
 formed-requires-9 : tie.Need-formed-requires-9
 formed-requires-9 c κs = search needs
 
+enum-told-10 : tie.Need-enum-told-10
+enum-told-10 c = search needs
+
+formed-requires-10 : tie.Need-formed-requires-10
+formed-requires-10 c κs = search needs
+
 returns : tie.Need-returns
 returns c = rw (c .before .before .before .enum-told .given .1) (c .formed .ensures)
 
 returns-2 : tie.Need-returns-2
-returns-2 c = rw (c .before .before .before .before .before .before .word .given .1, c .before .before .before .enum-told2 .given .1) (c .formed2 .ensures)
+returns-2 c = rw (c .before .before .before .enum-told2 .given .1) (c .formed2 .ensures)
 
 returns-3 : tie.Need-returns-3
 returns-3 c = rw (c .before .before .before .before .before .before .word .given .1, c .before .before .before .enum-told3 .given .1) (c .formed3 .ensures)
@@ -80,7 +86,7 @@ returns-5 : tie.Need-returns-5
 returns-5 c = rw (c .before .before .before .before .before .before .word .given .1, c .before .before .before .enum-told5 .given .1) (c .formed5 .ensures)
 
 returns-6 : tie.Need-returns-6
-returns-6 c = rw (c .before .before .before .before .before .before .word2 .given .1, c .before .before .before .enum-told6 .given .1) (c .formed6 .ensures)
+returns-6 c = rw (c .before .before .before .before .before .before .word .given .1, c .before .before .before .enum-told6 .given .1) (c .formed6 .ensures)
 
 returns-7 : tie.Need-returns-7
 returns-7 c = rw (c .before .before .before .before .before .before .word2 .given .1, c .before .before .before .enum-told7 .given .1) (c .formed7 .ensures)
@@ -91,30 +97,35 @@ returns-8 c = rw (c .before .before .before .before .before .before .word2 .give
 returns-9 : tie.Need-returns-9
 returns-9 c = rw (c .before .before .before .before .before .before .word2 .given .1, c .before .before .before .enum-told9 .given .1) (c .formed9 .ensures)
 
+returns-10 : tie.Need-returns-10
+returns-10 c = rw (c .before .before .before .before .before .before .word2 .given .1, c .before .before .before .enum-told10 .given .1) (c .formed10 .ensures)
+
 pub form-of-spec : {M : Type 1} → statement M
 form-of-spec =
     tie.close
     (tie.spec
     enum-told
     formed-requires
-    enum-known-word
     enum-told-2
     formed-requires-2
+    enum-known-word
     enum-told-3
     formed-requires-3
     enum-told-4
     formed-requires-4
     enum-told-5
     formed-requires-5
-    enum-known-word-2
     enum-told-6
     formed-requires-6
+    enum-known-word-2
     enum-told-7
     formed-requires-7
     enum-told-8
     formed-requires-8
     enum-told-9
     formed-requires-9
+    enum-told-10
+    formed-requires-10
     returns
     returns-2
     returns-3
@@ -123,4 +134,5 @@ form-of-spec =
     returns-6
     returns-7
     returns-8
-    returns-9)
+    returns-9
+    returns-10)

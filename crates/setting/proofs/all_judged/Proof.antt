@@ -4,10 +4,9 @@ use mathlib.Core.Path.{_≡_, refl, sym, _∙_, ap, subst}
 use Prim.Native.Nat.{ℕ, _-_, _≤_, _<_}
 use native.Mathlib.Omega.{arith}
 use lib.ListN.{length, getD, length-set}
-use Rattle.laws.proofs.Filled.{filled-more, left-more}
+use Rattle.laws.proofs.Filled.{filled-more, left-more, map-filled}
 use Rattle.book.specs.Book.{beyond, under}
 use Rattle.stands.specs.Stands.{HoldsValid}
-use Rattle.setting.proofs.Under.{judged-alike}
 use borrow.Author.Needs.{needs}
 use Rattle.setting.proofs.all_judged.Statement.{statement}
 use Rattle.setting.proofs.all_judged.Tie as tie
@@ -62,7 +61,7 @@ returns c =
     let st = c .before .before in
     let lp = c .before .loop in
     let l : length (st .args .places) ≡ 32 = search needs in
-    judged-alike (st .args .figures) (st .args .places) (lp .next) l (lp .inv .1) (λ j h. lp .inv .2 j (omega (arith, c .loop-test .left)))
+    map-filled (under (st .args .figures)) beyond (st .args .places) (lp .next) (lp .inv .1 ∙ sym l) (λ j h. lp .inv .2 j (omega (arith, l, c .loop-test .left)))
 
 pub all-judged-spec : {M : Type 1} → statement M
 all-judged-spec =

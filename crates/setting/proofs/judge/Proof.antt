@@ -11,7 +11,6 @@ use Rattle.benchmark.specs.Lawful.{Lawful}
 use Rattle.figures.specs.Working.{workedIf}
 use Rattle.benchmark.proofs.Lawful.{lawful}
 use Rattle.book.specs.Book.{under}
-use Rattle.stands.proofs.InForce.{holds-at}
 use borrow.Author.Needs.{needs}
 use Rattle.setting.proofs.judge.Statement.{statement}
 use Rattle.setting.proofs.judge.Tie as tie
@@ -19,7 +18,7 @@ use Rattle.setting.proofs.judge.Tie as tie
 -- all checks passed, so the figures are the sheet's, and lawful
 module _ (c : tie.After-enum-told) where
   abbrev at-work-out : tie.After-work-out
-  at-work-out = c .before .before .before .before
+  at-work-out = c .before .before .before
 
   abbrev at-start : tie.Start
   at-start = at-work-out .before .before
@@ -46,13 +45,13 @@ returns : tie.Need-returns
 returns c =
     let refuses = c .enum-told2 .given .1 in
     record {
-      checks = c .before .before .before .before .work-out .ensures .0;
+      checks = c .before .before .before .work-out .ensures .0;
       works = λ p. never (cc);
       places = λ p. never (cc);
     }
 
 all-judged-requires : tie.Need-all-judged-requires
-all-judged-requires c κs = (fit c, holds-at (at-start c .args .b) (at-start c .pre))
+all-judged-requires c κs = (fit c, at-start c .pre)
 
 returns-2 : tie.Need-returns-2
 returns-2 c =
@@ -60,7 +59,7 @@ returns-2 c =
     record {
       checks = at-work-out at .work-out .ensures .0;
       works = λ p. worked at;
-      places = λ p. c .all-judged .ensures ∙ ap (λ (f : Benchmarks). map (under f) (at-start at .args .b .places)) (worked at);
+      places = λ p. c .all-judged .ensures ∙ ap (λ (f : Benchmarks). map (under f) (at-start at .args .places)) (worked at);
     }
 
 pub judge-spec : {M : Type 1} → statement M

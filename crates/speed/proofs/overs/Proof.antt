@@ -1,10 +1,12 @@
 -- `speed::overs` is safe and ends: each OPEN settles the place of the code, and with it stored the book is one that some list of calls leaves.
 -- Assumes nothing.
+use mathlib.Core.Path.{sym, _∙_}
+use mathlib.Core.Logic.{⊎-elim}
 use Prim.Native.Nat.{_-_, _≤_}
 use native.Mathlib.Omega.{arith}
 use Rattle.book.specs.Book.{Reachable}
 use Rattle.book.proofs.Places.{has-there}
-use Rattle.book.proofs.Reached.{does-reachable}
+use Rattle.stands.proofs.Placed.{gone-reachable, stays-reachable}
 use Rattle.codes.specs.declared.CodeAct.the-variants.{Open}
 use Rattle.codes.proofs.Places.{may-judge}
 use borrow.Author.Needs.{needs}
@@ -52,6 +54,25 @@ mul-place c = search needs
 element-set-from-place : tie.Need-element-set-from-place Inv-loop μ-loop
 element-set-from-place c = search needs
 
+ends-undo-requires : tie.Need-ends-undo-requires Inv-loop μ-loop
+ends-undo-requires c κs = search needs
+
+nothing-kept-requires : tie.Need-nothing-kept-requires Inv-loop μ-loop
+nothing-kept-requires c κs = search needs
+
+-- the book after OPEN
+after-open : (c : tie.Joined1 Inv-loop μ-loop) → Reachable (c .if1 .b)
+after-open c =
+    let e = c .before in
+    let s = e .before .before .before in
+    let i = s .before .before .before in
+    let lp = i .before .before .before .before .loop in
+    let does = s .settle .ensures .1 _ _ (has-there (lp .inv .1) _ _ (i .index-of .ensures)) in
+    ⊎-elim
+    (λ w. rw (w .2) (gone-reachable (lp .b) (lp .inv .1) _ _ (s .settle .result) does _ (w .1 .ensures) (sym (e .ends-undo .ensures) ∙ w .0 .taken)))
+    (λ w. rw (w .1) (stays-reachable (lp .b) (lp .inv .1) _ _ (s .settle .result) does (sym (e .ends-undo .ensures) ∙ w .0 .left)))
+    (c .if1 .came)
+
 fold-reply-requires : tie.Need-fold-reply-requires Inv-loop μ-loop
 fold-reply-requires c κs = search needs
 
@@ -80,11 +101,10 @@ loop-less : tie.Need-loop-less Inv-loop μ-loop
 loop-less c = search needs
 
 loop-again : tie.Need-loop-again Inv-loop μ-loop
-loop-again c =
-    let s = c .before .before .before .before .before .before .before in
-    let i = s .before .before .before in
-    let held = i .before .before .before .before .loop .inv .1 in
-    (omega arith, does-reachable held (s .settle .ensures .1 _ _ (has-there held _ _ (i .index-of .ensures))))
+loop-again c = (
+  omega (arith, c .before .before .before .before .before .before .before .before .before .before .before .before .before .before .before .loop-test .taken),
+  after-open (c .before .before .before .before .before),
+)
 
 returns : tie.Need-returns Inv-loop μ-loop
 returns c = search needs
@@ -106,6 +126,8 @@ overs-spec =
     settle-requires
     mul-place
     element-set-from-place
+    ends-undo-requires
+    nothing-kept-requires
     fold-reply-requires
     array-read-wide
     wide-requires

@@ -1,6 +1,6 @@
 -- `taking::take_lines` meets its contract: at each turn the lines taken so far are answered as their definition says.
 -- Assumes nothing.
-use mathlib.Core.Path.{_≡_, refl, sym, _∙_, ap}
+use mathlib.Core.Path.{_≡_, refl, sym, _∙_, ap, subst}
 use mathlib.Core.Bool.{true}
 use mathlib.Core.List.{List}
 use mathlib.Core.Logic.{⊎-elim}
@@ -10,20 +10,24 @@ use lib.ListN.{length, getD, take}
 use lib.Seq.{length-take-le}
 use borrow.Author.Needs.{needs}
 use borrow.Author.Tests.{ltb-true}
+use Rattle.book.specs.Calls.{UNDO, call}
 use Rattle.book.specs.Checks.{inside}
 use Rattle.book.specs.Book.{beyond}
 use Rattle.texts.proofs.Writing.{puts-size}
 use Rattle.answers.specs.Answers.{answerRoom}
 use Rattle.lines.specs.Words.{between}
 use Rattle.request.specs.declared.CodeStep.{CodeStep}
+use Rattle.request.specs.declared.Query.{Query}
 use Rattle.request.specs.declared.Word.{Word}
 use Rattle.request.specs.declared.Word.the-variants as word
+use Rattle.protocol.specs.declared.Said.{Said}
 use Rattle.protocol.specs.declared.Said.the-variants as said
-use Rattle.protocol.specs.Lines.{Response, lineAt}
+use Rattle.protocol.specs.Lines.{Response, stepLine, lineAt}
 use Rattle.book.specs.Settling.{HasPlace}
-use Rattle.protocol.specs.Promises.{Answered, ToDo}
+use Rattle.stands.proofs.Placed.{kept-gone, kept-stays}
+use Rattle.protocol.specs.Promises.{Answered, ToDo, Says}
 use Rattle.taking.specs.Taking.{hasRoom}
-use Rattle.taking.proofs.Taking.{feed-left, room-yes, some-number, has-place, Sofar, sofar-none, sofar-more}
+use Rattle.taking.proofs.Taking.{feed-left, room-yes, some-number, has-place, stored-answered, Sofar, sofar-none, sofar-more}
 use Rattle.taking.proofs.take_lines.Statement.{statement}
 use Rattle.taking.proofs.take_lines.Tie as tie
 
@@ -46,17 +50,31 @@ module _ (s : tie.After-slice-known4 Inv-loop μ-loop) where
   line-of = lineAt (turn .loop .book) (turn .loop .l + 1) (turn .loop .cut) (between (began .args .input .now) (turn .loop .from) (turn .loop .end))
 
   abbrev numbers-of : List ℕ
-  numbers-of = s .before .before .before .before .say-line .last .1 .1 .1 .1 .1 .1 .0
+  numbers-of = s .before .before .before .before .say-line .last .1 .1 .1 .1 .1 .0
+
+  -- what was said to it, on the book of the turn
+  abbrev Saying : Said → Type 0
+  Saying r = Says r (turn .loop .book) line-of (turn .loop .at) (turn .loop .out) (s .before .before .before .before .say-line .last .1 .1 .1 .1 .1 .1 .0) numbers-of
+
+  said-of : Saying (s .before .before .before .before .say-line .result)
+  said-of = s .before .before .before .before .say-line .ensures (turn .loop .book) (turn .loop .inv .2 .reachable)
 
   -- what is still to be done, where it is that
   abbrev Asks : Word → ℕ → Type 0
-  Asks w n = ToDo w n (turn .loop .book) line-of (turn .loop .out) (s .before .before .before .before .say-line .last .1 .1 .1 .1 .1 .1 .1 .0) numbers-of
+  Asks w n = ToDo w n (turn .loop .book) line-of (turn .loop .out) (s .before .before .before .before .say-line .last .1 .1 .1 .1 .1 .1 .0) numbers-of
 
   asks-set : (n : ℕ) → s .before .before .before .before .say-line .result ≡ said.Set n → Asks word.Set n
-  asks-set n e = rw e at (s .before .before .before .before .say-line .ensures)
+  asks-set n e = subst Saying e said-of
+
+  asks-undo : s .before .before .before .before .say-line .result ≡ said.Undo
+      → (line-of ≡ stepLine (turn .loop .book) (call UNDO)) × (s .before .before .before .before .say-line .last .1 .1 .1 .1 .1 .1 .0 ≡ turn .loop .out)
+  asks-undo e = subst Saying e said-of
 
   asks-on : (step : CodeStep) (n : ℕ) → s .before .before .before .before .say-line .result ≡ said.On step n → Asks (word.On step) n
-  asks-on step n e = rw e at (s .before .before .before .before .say-line .ensures)
+  asks-on step n e = subst Saying e said-of
+
+  asks-tells : (query : Query) (n : ℕ) → s .before .before .before .before .say-line .result ≡ said.Tells query n → Asks (word.Tells query) n
+  asks-tells query n e = subst Saying e said-of
 
   -- the place that a call on a code is made on
   has : (step : CodeStep) (n i : ℕ) → Asks (word.On step) n → (i < 32) × (inside (getD numbers-of 0 0) ≡ true → suc i ≡ getD numbers-of 0 0)
@@ -69,14 +87,32 @@ line-done : (c : tie.At-match-came Inv-loop μ-loop)
 line-done c =
     let s = c .before in
     ⊎-elim
-    (λ w. rw (w .3, w .4, w .5) (rw (w .1 .given .1) at (s .before .before .before .before .say-line .ensures)))
+    (λ w. rw (w .3, w .4, w .5) (subst (Saying s) (w .1 .given .1) (said-of s)))
     (⊎-elim
     (λ w.
     let a = asks-set s _ (w .1 .given .1) in
     rw (w .9, w .10, w .11, a .0) (rw (a .3) at (w .5 .ensures)))
+    (⊎-elim
+    (λ w.
+    let a = asks-undo s (w .1 .given .1) in
+    rw (w .7, w .8, w .9, a .0) (rw (a .1) at (w .3 .ensures)))
+    (⊎-elim
     (λ w.
     let a = asks-on s _ _ (w .1 .given .1) in
-    rw (w .13, w .14, w .15, a .0) (rw (a .3) at (w .9 .ensures _ _ (has s (w .1 .given .0 .0) (w .1 .given .0 .1 .0) _ a (w .4 .ensures))))))
+    let b = turn s .loop .book in
+    let gone = w .15 .ensures ∙ kept-gone (w .9 .result .reply) (b .kept) (sym (w .13 .ensures) ∙ w .14 .taken) in
+    rw (w .16, w .17, w .18, a .0)
+    (stored-answered b (w .4 .result) (w .9 .result .place) (w .9 .result .reply) gone (rw (a .3) at (w .9 .ensures _ _ (has s (w .1 .given .0 .0) (w .1 .given .0 .1 .0) _ a (w .4 .ensures))))))
+    (⊎-elim
+    (λ w.
+    let a = asks-on s _ _ (w .1 .given .1) in
+    let b = turn s .loop .book in
+    let stays = kept-stays (w .9 .result .reply) b (turn s .loop .inv .2 .reachable) (sym (w .13 .ensures) ∙ w .14 .left) in
+    rw (w .15, w .16, w .17, a .0)
+    (stored-answered b (w .4 .result) (w .9 .result .place) (w .9 .result .reply) stays (rw (a .3) at (w .9 .ensures _ _ (has s (w .1 .given .0 .0) (w .1 .given .0 .1 .0) _ a (w .4 .ensures))))))
+    (λ w.
+    let a = asks-tells s _ _ (w .1 .given .1) in
+    rw (w .8, w .9, w .10, a .0) (rw (a .3) at (w .5 .ensures)))))))
     (c .match .came)
 
 -- room for its answer
@@ -101,7 +137,7 @@ say-line-requires : tie.Need-say-line-requires Inv-loop μ-loop
 say-line-requires c κs =
     let p = c .before .before .before .before .before in
     let st = c .before .before .before .before .before .before .before .before .before .before in
-    (p .loop .inv .2 .reachable, p .loop .inv .2 .order, omega (arith, p .loop .inv .2 .inside, st .pre .1 .inside), omega (arith, p .loop .inv .0, st .pre .2), room-for (c .before .before .before) (c .before .before .if1 .taken) .0)
+    (p .loop .inv .2 .order, omega (arith, p .loop .inv .2 .inside, st .pre .1 .inside), omega (arith, p .loop .inv .0, st .pre .2), room-for (c .before .before .before) (c .before .before .if1 .taken) .0)
 
 enum-known-said : tie.Need-enum-known-said Inv-loop μ-loop
 enum-known-said c = c .match .keys1
@@ -121,8 +157,17 @@ do-set-requires c κs =
     let a = asks-set s _ (c .before .before .before .said2 .given .1) in
     (turn s .loop .inv .2 .reachable, rw (length-take-le (c .before .before .before .said2 .given .0 .0) (numbers-of s) (a .1)) (a .2), omega (arith, ap length (a .3), room-for (s .before .before .before .before .before .before .before .before) (s .before .before .before .before .before .before .before .if1 .taken) .0))
 
+enum-told : tie.Need-enum-told Inv-loop μ-loop
+enum-told c = c .match .keys3
+
+do-undo-requires : tie.Need-do-undo-requires Inv-loop μ-loop
+do-undo-requires c κs =
+    let s = c .before .before .before in
+    let a = asks-undo s (c .before .enum-told .given .1) in
+    (turn s .loop .inv .2 .reachable, omega (arith, ap length (a .1), room-for (s .before .before .before .before .before .before .before .before) (s .before .before .before .before .before .before .before .if1 .taken) .0))
+
 enum-known-said-3 : tie.Need-enum-known-said-3 Inv-loop μ-loop
-enum-known-said-3 c = c .match .keys3
+enum-known-said-3 c = c .match .keys4
 
 slice-read-index-of : tie.Need-slice-read-index-of Inv-loop μ-loop
 slice-read-index-of c =
@@ -159,6 +204,28 @@ mul-place c = search needs
 element-set-from-place : tie.Need-element-set-from-place Inv-loop μ-loop
 element-set-from-place c = search needs
 
+ends-undo-requires : tie.Need-ends-undo-requires Inv-loop μ-loop
+ends-undo-requires c κs = search needs
+
+nothing-kept-requires : tie.Need-nothing-kept-requires Inv-loop μ-loop
+nothing-kept-requires c κs = search needs
+
+enum-known-said-4 : tie.Need-enum-known-said-4 Inv-loop μ-loop
+enum-known-said-4 c = c .match .keys5
+
+slice-reshare-prefix-do-tell : tie.Need-slice-reshare-prefix-do-tell Inv-loop μ-loop
+slice-reshare-prefix-do-tell c = asks-tells (c .before .before .before) _ _ (c .before .said4 .given .1) .1
+
+slice-aggregate-do-tell : tie.Need-slice-aggregate-do-tell Inv-loop μ-loop
+slice-aggregate-do-tell c = sym (length-take-le _ _ (asks-tells (c .before .before .before .before) _ _ (c .before .before .said4 .given .1) .1))
+
+do-tell-requires : tie.Need-do-tell-requires Inv-loop μ-loop
+do-tell-requires c κs =
+    let s = c .before .before .before .before .before in
+    let asked = c .before .before .before .said4 .given in
+    let a = asks-tells s _ _ (asked .1) in
+    (turn s .loop .inv .2 .reachable, rw (length-take-le (asked .0 .1 .0) (numbers-of s) (a .1)) (a .2), omega (arith, ap length (a .3), room-for (s .before .before .before .before .before .before .before .before) (s .before .before .before .before .before .before .before .if1 .taken) .0))
+
 add-from : tie.Need-add-from Inv-loop μ-loop
 add-from c = omega (arith, c .before .before .before .before .before .before .before .before .before .before .loop-test .taken, c .before .before .before .before .before .before .before .before .before .before .before .before .before .before .before .before .pre .1 .inside, c .before .before .before .before .before .before .before .before .before .before .before .before .before .before .before .before .good)
 
@@ -173,7 +240,7 @@ loop-again c =
     let p = c .before .before .before .before .before .before .before .before .before .before .before .before in
     let st = c .before .before .before .before .before .before .before .before .before .before .before .before .before .before .before .before .before in
     let done = line-done (c .before) in (
-      c .before .before .before .before .before .before .say-line .kept .1 .1 .1 .1 .1 .1 .0 ∙ p .loop .inv .0,
+      c .before .before .before .before .before .before .say-line .kept .1 .1 .1 .1 .1 .0 ∙ p .loop .inv .0,
       puts-size (done .text) ∙ p .loop .inv .1,
       sofar-more _ _ (st .args .i) (st .args .input .now) (st .args .out .now) (st .pre .1 .inside) _ _ _ _ _ _ _ _ _ _ _ (p .loop .inv .2) (c .before .before .before .before .before .before .before .before .before .before .before .loop-test .taken) (done .book) (done .reachable) (done .text)
           (c .line-end2 .ensures .1 .0) (c .line-end2 .ensures .1 .1) (c .line-end2 .ensures .0),
@@ -223,6 +290,8 @@ take-lines-spec =
     slice-reshare-prefix-do-set
     slice-aggregate-do-set
     do-set-requires
+    enum-told
+    do-undo-requires
     enum-known-said-3
     slice-read-index-of
     index-of-requires
@@ -233,6 +302,12 @@ take-lines-spec =
     do-on-requires
     mul-place
     element-set-from-place
+    ends-undo-requires
+    nothing-kept-requires
+    enum-known-said-4
+    slice-reshare-prefix-do-tell
+    slice-aggregate-do-tell
+    do-tell-requires
     add-from
     line-end-requires-2
     loop-less

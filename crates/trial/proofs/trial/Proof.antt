@@ -2,6 +2,7 @@
 -- Assumes nothing.
 use mathlib.Core.Path.{sym, _∙_, ap}
 use Rattle.book.specs.Calls.{sheetAt}
+use Rattle.stands.proofs.InForce.{holds-at}
 use Rattle.queries.specs.Queries.{tellingOf, falling}
 use Rattle.queries.specs.Reading.{refusalTold}
 use Rattle.trial.proofs.Trials.{trial-refused, trial-told}
@@ -10,7 +11,7 @@ use Rattle.trial.proofs.trial.Statement.{statement}
 use Rattle.trial.proofs.trial.Tie as tie
 
 judge-requires : tie.Need-judge-requires
-judge-requires c κs = search needs
+judge-requires c κs = let st = c .before .before in holds-at (st .args .b) (st .pre)
 
 enum-told : tie.Need-enum-told
 enum-told c = search needs
@@ -24,7 +25,7 @@ refused-requires c κs = search needs
 returns : tie.Need-returns
 returns c =
     let j = c .before .before .before in
-    let st = j .before .before in
+    let st = j .before .before .before in
     let refuses = c .before .enum-told2 .given .1 in
     ap tellingOf (c .refused .ensures ∙ ap refusalTold refuses)
     ∙ sym (trial-refused (st .args .b) (sheetAt (st .args .fields .now) (st .args .period)) _ (sym (j .judge .ensures .checks) ∙ refuses))
@@ -34,10 +35,10 @@ fallen-requires c κs = search needs
 
 returns-2 : tie.Need-returns-2
 returns-2 c =
-    let told = c .before .before .before in
+    let told = c .before .before in
     let passes = told .enum-told .given .1 in
     let j = told .before .before in
-    let st = j .before .before in
+    let st = j .before .before .before in
     ap falling (c .fallen .ensures)
     ∙ sym (trial-told (st .args .b) (sheetAt (st .args .fields .now) (st .args .period)) (sym (j .judge .ensures .checks) ∙ passes) _ (j .judge .ensures .places passes))
 

@@ -92,6 +92,14 @@ fn fixed_run(program: &Program, commit: Option<u64>, all_counts: bool) -> Result
         "openings refused for one mill of a region's own standing charge",
     );
     tell(
+        count("undo ok"),
+        "sheets taken back, and the book before them restored",
+    );
+    tell(
+        count("undo refused 15"),
+        "undos refused, with nothing to take back",
+    );
+    tell(
         count("lines sent one by one, answered before the next"),
         "lines in conversation, each answered before the next was sent",
     );

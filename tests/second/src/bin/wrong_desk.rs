@@ -22,13 +22,25 @@ struct WrongDesk {
     fault: String,
     desk: Desk,
     begun: Vec<u8>,
-    /// The numbers of the last SET that was accepted.
+    /// The numbers of the sheet in force and its period.
     in_force: Vec<u32>,
+    /// The same before the last SET that was accepted.
+    before: Vec<u32>,
     /// The last tariff put at each code.
     records: [[u32; RECORD]; 33],
     /// The set of codes that this desk has kept open at the last SET, though they fell, and of
     /// those that it made drafts, though they did not.
     misjudged: (u32, u32),
+    undos: WrongUndos,
+}
+
+/// UNDO by copies of the book, with a fault.
+#[derive(Default)]
+struct WrongUndos {
+    /// The books to go back to, the last one first to be gone to.
+    kept: Vec<Book>,
+    /// A sheet by which questions are answered in place of the one in force.
+    by_sheet: Option<Vec<u32>>,
 }
 
 impl WrongDesk {
@@ -100,6 +112,9 @@ impl WrongDesk {
         let mut elsewhere = None;
         let mut other = None;
         if is_call(line) {
+            if self.fault_of("undo").is_some() {
+                return self.line_with_wrong_undo(call, &numbers, line, out);
+            }
             let book = self.wrong_book(call, &numbers);
             elsewhere = book.and_then(|book| answer_of(book, call, &numbers));
             other = self.wrong_numbers(call, &numbers);
@@ -126,12 +141,128 @@ impl WrongDesk {
             out.truncate(start);
             out.extend_from_slice(refusal);
         } else if call == "set" && answer == b"ok\n" {
-            self.in_force = numbers;
+            self.before = std::mem::replace(&mut self.in_force, numbers);
+        } else if call == "undo" && answer == b"ok\n" {
+            self.in_force = std::mem::take(&mut self.before);
+            self.misjudged = (0, 0);
         } else if call == "put" && answer == b"ok\n" {
             let record = numbers[1..].try_into();
             // A fault may have taken another length.
             self.records[numbers[0] as usize] = record.unwrap_or([0; RECORD]);
         }
+    }
+
+    /// A call to a desk whose UNDO has the fault. The book there is right but for what the fault
+    /// makes of it.
+    fn line_with_wrong_undo(
+        &mut self,
+        call: &str,
+        numbers: &[u32],
+        line: &[u8],
+        out: &mut Vec<u8>,
+    ) {
+        let start = out.len();
+        let before = self.desk.book().clone();
+        self.desk.line(line, out);
+        if out.len() == start {
+            return;
+        }
+        let accepted = out[start..].starts_with(b"ok");
+        let fault = self.fault_of("undo").expect("a fault of undo").to_string();
+        if call == "undo" {
+            let answer = self.wrong_undo(&fault, before);
+            out.truncate(start);
+            out.extend_from_slice(answer);
+            return;
+        }
+        if let Some(answer) = self.by_another_sheet(call, numbers) {
+            out.truncate(start);
+            out.extend_from_slice(answer.as_bytes());
+        }
+        let kept = &mut self.undos.kept;
+        match (call, accepted) {
+            ("set", true) => {
+                if fault != "two steps are kept" {
+                    kept.clear();
+                }
+                kept.push(before);
+                if kept.len() > 2 {
+                    kept.remove(0);
+                }
+                self.before = std::mem::replace(&mut self.in_force, numbers.to_vec());
+                self.undos.by_sheet = None;
+                return;
+            }
+            ("put" | "open" | "close" | "drop", true)
+                if fault != format!("the chance survives an accepted {call}") =>
+            {
+                kept.clear();
+            }
+            _ => {}
+        }
+        let outcome = if accepted { "an accepted" } else { "a refused" };
+        if fault == format!("the chance ends by {outcome} {call}") {
+            kept.clear();
+        }
+        if kept.is_empty() && fault == format!("{outcome} {call} makes a chance") {
+            kept.push(before);
+        }
+    }
+
+    /// UNDO by the copies, with the fault; `before` is the book before it.
+    fn wrong_undo(&mut self, fault: &str, before: Book) -> &'static [u8] {
+        let restored = self.undos.kept.pop();
+        let Some(restored) = restored.filter(|_| fault != "15 to every undo") else {
+            *self.desk.book_mut() = before;
+            if fault == "no refusal" {
+                return b"ok\n";
+            }
+            return b"refused 15\n";
+        };
+        let first = restored.t().is_none();
+        let taken_back = std::mem::replace(&mut self.in_force, std::mem::take(&mut self.before));
+        let book = self.desk.book_mut();
+        *book = restored.clone();
+        let open = |book: &Book, code: u32| book.state(code) == Some(State::Open);
+        let mut back = (1..=32).filter(|&code| open(&restored, code) && !open(&before, code));
+        match fault {
+            "a chance is left" => self.undos.kept.push(restored),
+            "what fell stays a draft" => back.for_each(|code| book.close(code).expect("open")),
+            "of what fell one stays a draft" => {
+                if let Some(code) = back.next_back() {
+                    book.close(code).expect("open");
+                }
+            }
+            "drafts are opened" => {
+                for code in 1..=32 {
+                    let _ = book.open(code);
+                }
+            }
+            "the first sheet stays in force" if first => *book = before,
+            "the new sheet is kept" if !first => self.undos.by_sheet = Some(taken_back),
+            "the new period is kept" if !first => {
+                let sheet = [&taken_back[..3], &self.in_force[3..]].concat();
+                self.undos.by_sheet = Some(sheet);
+            }
+            "the new fields are kept" if !first => {
+                let sheet = [&self.in_force[..3], &taken_back[3..]].concat();
+                self.undos.by_sheet = Some(sheet);
+            }
+            "the book is emptied" => *book = Book::new(),
+            // Without a fault the others are found by what they do wrong, and not by the copies.
+            _ => {}
+        }
+        b"ok\n"
+    }
+
+    /// The answer to a question by another sheet than the one in force, if there is one.
+    fn by_another_sheet(&self, call: &str, numbers: &[u32]) -> Option<String> {
+        let sheet = self.undos.by_sheet.as_ref()?;
+        let mut book = self.desk.book().clone();
+        let set = book.set(sheet[0], sheet[1], sheet[2], &sheet[3..]);
+        set.ok()?;
+        let question = ["benchmark", "maximum", "quote"].contains(&call);
+        question.then(|| answer_of(book, call, numbers))?
     }
 
     /// Other numbers than those of the call, for faults in SET, in TRIAL or in PUT alone.
@@ -703,8 +834,10 @@ fn work(fault: &str) -> io::Result<ExitCode> {
         desk: Desk::new(),
         begun: Vec::new(),
         in_force: Vec::new(),
+        before: Vec::new(),
         records: [[0; RECORD]; 33],
         misjudged: (0, 0),
+        undos: WrongUndos::default(),
     };
     match fault {
         "it leaves at once" => return Ok(ExitCode::SUCCESS),

@@ -137,7 +137,8 @@ impl Counts {
         if !tried.accepted {
             return;
         }
-        let fell = (1..=32).contains(&numbers[0]) && tried.fallen >> (numbers[0] - 1) & 1 == 1;
+        let code = numbers.first().copied().unwrap_or(0);
+        let fell = (1..=32).contains(&code) && tried.fallen >> (code - 1) & 1 == 1;
         match (call, refusal) {
             ("open", 11) | ("close", 12) if tried.set && fell => {
                 count!(self, "trial, the same set, then {call} of one that fell");

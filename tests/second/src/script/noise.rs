@@ -25,11 +25,15 @@ impl Writer {
     }
 
     pub(super) fn unknown_call(&mut self) -> Vec<u8> {
-        const WORDS: [&[u8]; 19] = [
+        const WORDS: [&[u8]; 23] = [
             b"SET 2023 10 3",
             b"TRIAL 2023 10 3",
             b"trials 2023 10 3",
             b"tria 2023 10 3",
+            b"UNDO",
+            b"undos",
+            b"und",
+            b"undo1",
             b"Open 1",
             b"opens 1",
             b"ope 1",
@@ -70,8 +74,9 @@ impl Writer {
             b"\xc2\xb2",
             b"1\r",
         ];
-        const CALLS: [&str; 9] = [
+        const CALLS: [&str; 10] = [
             "set",
+            "undo",
             "trial",
             "put",
             "open",
@@ -117,8 +122,9 @@ impl Writer {
     }
 
     pub(super) fn wrong_count(&mut self) -> Vec<u8> {
-        const CALLS: [(&str, &[usize]); 9] = [
+        const CALLS: [(&str, &[usize]); 10] = [
             ("set", &[0, 1, 2]),
+            ("undo", &[1, 2, 3, 20]),
             ("trial", &[0, 1, 2]),
             ("put", &[0]),
             ("open", &[0, 2, 3, 20]),

@@ -30,7 +30,7 @@ impl Writer {
 
     /// The SET of the sheet that was tried, unless it would end the while without a sheet, and
     /// a look at what fell.
-    fn same_set(&mut self, dated: &Dated, answer: Result<u32, Refusal>) {
+    pub(super) fn same_set(&mut self, dated: &Dated, answer: Result<u32, Refusal>) {
         if answer.is_ok() && self.calls < self.bare {
             return;
         }
@@ -96,6 +96,11 @@ impl Writer {
             if self.random.one_in(4) {
                 self.look_around(answer.unwrap_or(0));
             }
+            if self.random.one_in(6) {
+                self.set(&dated);
+                self.undo();
+                self.look_around(answer.unwrap_or(0));
+            }
             if self.random.one_in(12) {
                 self.same_set(&dated, answer);
             }
@@ -124,7 +129,7 @@ impl Writer {
     }
 
     /// Lower network costs, by as much at m as at nil, in all regions or in one.
-    fn squeeze(&mut self, dated: &mut Dated) {
+    pub(super) fn squeeze(&mut self, dated: &mut Dated) {
         let only = self.random.one_in(3).then(|| self.region());
         self.squeeze_in(only, dated);
     }
@@ -143,9 +148,9 @@ impl Writer {
         }
     }
 
-    /// Calls that show whether the trial, in which these codes would have fallen, has left the
-    /// book as it was.
-    fn look_around(&mut self, fallen: u32) {
+    /// Calls that show whether the book is as it was before a trial in which these codes would
+    /// have fallen, or before a SET that was taken back.
+    pub(super) fn look_around(&mut self, fallen: u32) {
         for _ in 0..1 + self.random.index(3) {
             let code = if fallen == 0 {
                 self.code_in(State::Draft, 1_000)

@@ -1,7 +1,7 @@
 //! The reference sheet, written out from document 01, with the split of 28AD.31 (document 02, M-103).
 #![allow(dead_code)]
 
-use second::{Book, NotOpened, RECORD, REGIONAL};
+use second::{Book, NotOpened, Refusal, RECORD, REGIONAL};
 
 pub const ALL: u32 = 16_383;
 
@@ -87,4 +87,39 @@ pub fn opened(book: &mut Book, code: u32) -> Verdict {
         ),
         Err(NotOpened::Refused(refusal)) => panic!("refused {}", refusal.number()),
     }
+}
+
+/// The number of a refusal, or 0.
+pub fn number<T>(answer: Result<T, Refusal>) -> u32 {
+    match answer {
+        Ok(_) => 0,
+        Err(refusal) => refusal.number(),
+    }
+}
+
+/// The reference sheet in force, and two flat tariffs open: 23,960 and 23,000 a day.
+pub fn two_open() -> Book {
+    let mut book = reference_book();
+    for (code, standing) in [(1, 23_960), (2, 23_000)] {
+        book.put(code, &tariff(1, standing, &[18_000], &[]))
+            .unwrap();
+        assert_eq!(book.open(code), Ok(28));
+    }
+    book
+}
+
+/// What can be seen of a book: each place, its sheet, and what each used place costs under it.
+pub fn seen(book: &Book) -> impl PartialEq + std::fmt::Debug {
+    let benchmarks: Vec<_> = (0..112)
+        .map(|i| book.benchmark(i / 8, i / 4 % 2, i / 2 % 2, i % 2))
+        .collect();
+    let maximum = book.maximum(0, 0, 1, 300);
+    let places: Vec<_> = (1..=32)
+        .map(|code| {
+            let t = book.t().unwrap_or(0) as usize;
+            let quote = book.quote(code, 0, 1, &vec![100; t]);
+            (book.state(code), quote)
+        })
+        .collect();
+    (benchmarks, maximum, places)
 }

@@ -29,11 +29,11 @@ const SET: usize = 0;
 const TRIAL: usize = 5;
 
 /// By the number that the programs know them by.
-const MEASUREMENTS: [Measurement; 7] = [
+const MEASUREMENTS: [Measurement; 8] = [
     Measurement {
         name: "SET, 32 open tariffs",
         calls: 150_000,
-        bar: Some(2.0),
+        bar: Some(1.6),
     },
     Measurement {
         name: "OPEN, 28 cells, 4 tiers, and CLOSE",
@@ -64,6 +64,11 @@ const MEASUREMENTS: [Measurement; 7] = [
         name: "OPEN and CLOSE, the book handed over and back",
         calls: 2_500_000,
         bar: None,
+    },
+    Measurement {
+        name: "SET and the UNDO that takes it back, 32 open tariffs",
+        calls: 150_000,
+        bar: Some(2.5),
     },
 ];
 

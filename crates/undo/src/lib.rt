@@ -1,0 +1,68 @@
+// UNDO: the last accepted SET is taken back.
+// Promise: `undo` answers and leaves what `step` of the book's definitions says of UNDO, on refused input too: 15, or the book as it was before
+// that SET, with nothing more to take back (stands/proofs/Undone.antt, `undone`). It requires document 01's own sentence on the book,
+// `Reachable`.
+ghost use mathlib.Core.Path.{_≡_};
+ghost use mathlib.Core.List.{zipWith};
+ghost use Rattle.refusal.specs.declared.Check.the-variants.{Pass};
+ghost use Rattle.refusal.specs.Checks.{unless};
+ghost use Rattle.book.specs.Calls.{UNDO, call};
+ghost use Rattle.book.specs.Book.{withState, Reachable};
+ghost use Rattle.book.specs.Promises.{Does};
+use book::Book;
+use book::Done;
+use book::Place;
+use book::Stood;
+use refusal::Check;
+
+// 15: nothing to take back.
+fn kept_check(any: bool) -> Check
+    ensures { λ r. ⌜ r ≡ unless any 15 Pass ⌝ }
+{
+    if any { Check::Pass } else { Check::Refuse(15) }
+}
+
+// Each place in the state that it had.
+fn in_states(places: [Place; 32], states: [Stood; 32]) -> [Place; 32]
+    ensures { λ r. ⌜ r ≡ zipWith (λ s. withState (s .state)) states places ⌝ }
+{
+    let mut next = places;
+    let mut i: usize = 0;
+    while i < 32 {
+        let p = next[i];
+        let stood = states[i];
+        let state = stood.state;
+        next[i] = book::in_state(p, state);
+        i += 1;
+    }
+    next
+}
+
+// UNDO. 15. Else the sheet is the one before, or none, and each place is in the state that it had. The figures are worked out again; a
+// book without a sheet has zeros for one, which SET's checks refuse, and so no figures.
+pub fn undo(b: Book) -> Done
+    requires { ⌜ Reachable b ⌝ }
+    ensures { λ r. ⌜ Does b (call UNDO) r ⌝ }
+{
+    let kept = b.kept;
+    let check = kept_check(kept.any);
+    let Check::Pass = check else {
+        return book::answered(check, b);
+    };
+    let fields = kept.fields;
+    let period = kept.period;
+    let worked = figures::work_out(&fields, period);
+    let figures = worked.benchmarks;
+    let before = b.places;
+    let states = kept.states;
+    let places = in_states(before, states);
+    let next = Book {
+        loaded: kept.loaded,
+        fields,
+        period,
+        benchmarks: figures,
+        places,
+        kept: book::nothing_kept(),
+    };
+    book::answered(check, next)
+}

@@ -1,0 +1,420 @@
+//! Demand 3 with UNDO among the calls (M-105). A slow reading of a whole list of calls stands
+//! beside the book: sheet, tariffs and open codes are read from the calls alone, as if an accepted
+//! UNDO and the SET that it takes back were not there, and so is whether there is something to
+//! take back. What a sheet, a tariff or the two together are worth is asked of fresh books.
+
+mod common;
+
+use common::{reference, tariff};
+use second::random::Random;
+use second::{Book, NotOpened, Refusal, State};
+
+/// Calls; sheets and tariffs are those of `Stock`, by their numbers there.
+#[derive(Clone, Copy, Debug, PartialEq)]
+enum Call {
+    Set(usize),
+    Trial(usize),
+    Put(u32, usize),
+    Open(u32),
+    Close(u32),
+    Drop(u32),
+    Undo,
+    Benchmark,
+    Maximum,
+    Quote(u32),
+}
+
+/// 0 or the number of the refusal, and the values that come with it.
+type Answer = (u32, Vec<u64>);
+
+/// A call that was made, and whether it was accepted.
+#[derive(Clone, Copy)]
+struct Made {
+    call: Call,
+    accepted: bool,
+}
+
+/// The sheets and the tariffs of the lists.
+struct Stock {
+    sheets: Vec<(u32, u32, u32, Vec<u32>)>,
+    tariffs: Vec<Vec<u32>>,
+}
+
+fn stock() -> Stock {
+    let with = |field: usize, word: u32| {
+        let mut sheet = reference();
+        sheet[field] = word;
+        sheet
+    };
+    Stock {
+        sheets: vec![
+            (2023, 10, 3, reference()),
+            // 23,960 a day falls, 23,000 does not.
+            (2023, 10, 3, with(36, 480_000)),
+            (2023, 10, 1, reference()),
+            // 23,000 falls too.
+            (2023, 10, 3, with(89, 1_500_000)),
+            // Economy 7 at 18,000 and 12,250 is within the cap of this one alone.
+            (2023, 10, 3, with(95, 579)),
+            (2024, 1, 12, with(36, 4_294_467_296)),
+            // Refused: 1, 2, 3, 5, 14.
+            (2023, 10, 3, reference()[..95].to_vec()),
+            (2023, 10, 3, with(93, 0)),
+            (2023, 13, 3, reference()),
+            (2023, 10, 3, with(37, 100_000_000)),
+            (2023, 10, 3, with(36, 4_194_967_296)),
+        ],
+        tariffs: vec![
+            tariff(1, 23_960, &[18_000], &[]).to_vec(),
+            tariff(1, 23_000, &[18_000], &[]).to_vec(),
+            tariff(2, 23_000, &[18_000, 12_250], &[]).to_vec(),
+            tariff(1, 0, &[0], &[]).to_vec(),
+            // Over the cap of every sheet.
+            tariff(1, 1_000_000, &[18_000], &[]).to_vec(),
+            // Refused: 8.
+            vec![1, 1],
+        ],
+    }
+}
+
+fn values<T>(answer: Result<T, Refusal>, list: impl Fn(T) -> Vec<u64>) -> Answer {
+    match answer {
+        Ok(value) => (0, list(value)),
+        Err(refusal) => (refusal.number(), Vec::new()),
+    }
+}
+
+impl Stock {
+    /// The book's own answer.
+    fn make(&self, book: &mut Book, call: Call) -> Answer {
+        let sheet = |number: usize| &self.sheets[number];
+        match call {
+            Call::Set(number) => {
+                let (year, month, t, fields) = sheet(number);
+                values(book.set(*year, *month, *t, fields), |()| Vec::new())
+            }
+            Call::Trial(number) => {
+                let (year, month, t, fields) = sheet(number);
+                values(
+                    book.trial(*year, *month, *t, fields),
+                    |set| vec![set.into()],
+                )
+            }
+            Call::Put(code, number) => {
+                values(book.put(code, &self.tariffs[number]), |()| Vec::new())
+            }
+            Call::Open(code) => match book.open(code) {
+                Ok(cells) => (0, vec![cells.into()]),
+                Err(NotOpened::Refused(refusal)) => (refusal.number(), Vec::new()),
+                Err(NotOpened::OverCap(breach)) => {
+                    let months = breach.months().iter().map(|&kwh| u64::from(kwh));
+                    let cell = [breach.region.into(), breach.method.into(), breach.excess];
+                    (11, cell.into_iter().chain(months).collect())
+                }
+            },
+            Call::Close(code) => values(book.close(code), |()| Vec::new()),
+            Call::Drop(code) => values(book.drop_code(code), |()| Vec::new()),
+            Call::Undo => values(book.undo(), |()| Vec::new()),
+            Call::Benchmark => values(book.benchmark(0, 0, 1, 0), |charge| vec![charge.into()]),
+            Call::Maximum => values(book.maximum(13, 1, 0, 300), |maximum| {
+                vec![maximum.number, maximum.denominator.into()]
+            }),
+            Call::Quote(code) => values(book.quote(code, 0, 1, &[100; 3]), |quote| {
+                vec![quote.charge, quote.maximum]
+            }),
+        }
+    }
+
+    /// A fresh book with this sheet, if there is one, and this tariff as a draft at a code.
+    fn fresh(&self, sheet: Option<usize>, at: Option<(u32, usize)>) -> Book {
+        let mut book = Book::new();
+        for call in sheet
+            .map(Call::Set)
+            .into_iter()
+            .chain(at.map(|(code, number)| Call::Put(code, number)))
+        {
+            assert_eq!(self.make(&mut book, call).0, 0);
+        }
+        book
+    }
+
+    /// Whether a tariff is over the cap of a sheet.
+    fn exceeds(&self, sheet: usize, tariff: usize) -> bool {
+        let mut book = self.fresh(Some(sheet), Some((1, tariff)));
+        self.make(&mut book, Call::Open(1)).0 == 11
+    }
+}
+
+// What is read from the calls.
+
+/// The place in the list of the SET that UNDO would take back after these calls: no PUT, OPEN,
+/// CLOSE or DROP has been accepted since, and no UNDO.
+fn to_take_back(made: &[Made]) -> Option<usize> {
+    let last = made.iter().rposition(|made| {
+        made.accepted
+            && matches!(
+                made.call,
+                Call::Set(_)
+                    | Call::Put(..)
+                    | Call::Open(_)
+                    | Call::Close(_)
+                    | Call::Drop(_)
+                    | Call::Undo
+            )
+    })?;
+    matches!(made[last].call, Call::Set(_)).then_some(last)
+}
+
+/// The calls without each accepted UNDO and the SET that it takes back.
+fn effective(made: &[Made]) -> Vec<Made> {
+    let mut there = vec![true; made.len()];
+    for (place, undo) in made.iter().enumerate() {
+        if undo.accepted && undo.call == Call::Undo {
+            let set = to_take_back(&made[..place]).expect("something to take back");
+            (there[place], there[set]) = (false, false);
+        }
+    }
+    let places = (0..made.len()).filter(|&place| there[place]);
+    places.map(|place| made[place]).collect()
+}
+
+/// The accepted ones of the calls that are left, oldest first.
+fn accepted(made: &[Made]) -> Vec<Call> {
+    let left = effective(made);
+    let accepted = left.iter().filter(|made| made.accepted);
+    accepted.map(|made| made.call).collect()
+}
+
+/// The sheet in force is that of the last accepted SET.
+fn sheet(made: &[Made]) -> Option<usize> {
+    accepted(made).iter().rev().find_map(|call| match call {
+        Call::Set(number) => Some(*number),
+        _ => None,
+    })
+}
+
+/// The tariff of a code is that of its last accepted PUT with no DROP accepted since.
+fn tariff_of(made: &[Made], code: u32) -> Option<usize> {
+    let last = accepted(made)
+        .into_iter()
+        .rev()
+        .find(|call| matches!(call, Call::Put(of, _) | Call::Drop(of) if *of == code));
+    match last {
+        Some(Call::Put(_, number)) => Some(number),
+        _ => None,
+    }
+}
+
+/// A code is open when an OPEN of it was accepted and, since the last such, no CLOSE, PUT or DROP of
+/// it and no SET with whose sheet its tariff exceeds.
+fn is_open(stock: &Stock, made: &[Made], code: u32) -> bool {
+    let calls = accepted(made);
+    let Some(opened) = calls.iter().rposition(|&call| call == Call::Open(code)) else {
+        return false;
+    };
+    calls[opened..].iter().all(|&call| match call {
+        Call::Close(of) | Call::Put(of, _) | Call::Drop(of) => of != code,
+        // With no tariff, or another one by now, it is not open whatever the sheet was.
+        Call::Set(number) => {
+            let tariff = tariff_of(made, code);
+            tariff.is_some_and(|tariff| !stock.exceeds(number, tariff))
+        }
+        _ => true,
+    })
+}
+
+fn state(stock: &Stock, made: &[Made], code: u32) -> State {
+    match tariff_of(made, code) {
+        None => State::Empty,
+        Some(_) if is_open(stock, made, code) => State::Open,
+        Some(_) => State::Draft,
+    }
+}
+
+/// The answer that a call's checks give for what is read from the calls before it.
+fn answer(stock: &Stock, made: &[Made], call: Call) -> Answer {
+    let sheet = sheet(made);
+    // Where the place is not open, or it does not matter: as on a fresh book.
+    let as_fresh = |code: Option<u32>| {
+        let at = code.and_then(|code| Some((code, tariff_of(made, code)?)));
+        let mut book = stock.fresh(sheet, at);
+        stock.make(&mut book, call)
+    };
+    match call {
+        Call::Undo => match to_take_back(made) {
+            Some(_) => (0, Vec::new()),
+            None => (15, Vec::new()),
+        },
+        Call::Trial(number) => {
+            let refusal = stock.make(&mut Book::new(), Call::Set(number)).0;
+            if refusal > 0 {
+                return (refusal, Vec::new());
+            }
+            let falls = |code: &u32| {
+                let tariff = tariff_of(made, *code).filter(|_| is_open(stock, made, *code));
+                tariff.is_some_and(|tariff| stock.exceeds(number, tariff))
+            };
+            let set: u64 = (1..=32).filter(falls).map(|code| 1 << (code - 1)).sum();
+            (0, vec![set])
+        }
+        Call::Put(code, _) | Call::Open(code) | Call::Drop(code) if is_open(stock, made, code) => {
+            (7, Vec::new())
+        }
+        Call::Close(code) if is_open(stock, made, code) => (0, Vec::new()),
+        Call::Put(code, _)
+        | Call::Open(code)
+        | Call::Close(code)
+        | Call::Drop(code)
+        | Call::Quote(code) => as_fresh(Some(code)),
+        Call::Set(_) | Call::Benchmark | Call::Maximum => as_fresh(None),
+    }
+}
+
+/// The places of the book against what is read from the calls.
+fn assert_places(stock: &Stock, made: &[Made], book: &Book, codes: &[u32]) {
+    let list = || made.iter().map(|made| made.call).collect::<Vec<_>>();
+    for &code in codes {
+        let read = state(stock, made, code);
+        assert_eq!(
+            book.state(code),
+            Some(read),
+            "code {code} after {:?}",
+            list()
+        );
+    }
+}
+
+/// Makes a call on the book, and compares the answer.
+fn step(stock: &Stock, made: &mut Vec<Made>, book: &mut Book, call: Call) -> Answer {
+    let read = answer(stock, made, call);
+    let given = stock.make(book, call);
+    let list = || made.iter().map(|made| made.call).collect::<Vec<_>>();
+    assert_eq!(given, read, "{call:?} after {:?}", list());
+    made.push(Made {
+        call,
+        accepted: given.0 == 0,
+    });
+    given
+}
+
+fn random_call(random: &mut Random, stock: &Stock) -> Call {
+    let code = match random.below(20) {
+        0 => random.pick(&[0, 33]),
+        _ => random.between(1, 3),
+    };
+    let sheet = random.index(stock.sheets.len());
+    let tariff = random.index(stock.tariffs.len());
+    match random.below(25) {
+        0..=6 => Call::Set(sheet),
+        7 => Call::Trial(sheet),
+        8..=9 => Call::Put(code, tariff),
+        10..=14 => Call::Open(code),
+        15 => Call::Close(code),
+        16 => Call::Drop(code),
+        17 => Call::Benchmark,
+        18 => Call::Maximum,
+        19 => Call::Quote(code),
+        _ => Call::Undo,
+    }
+}
+
+/// A sheet, and tariffs that are open under it.
+const OPEN_AT_FIRST: [Call; 5] = [
+    Call::Set(0),
+    Call::Put(1, 0),
+    Call::Open(1),
+    Call::Put(2, 1),
+    Call::Open(2),
+];
+
+#[test]
+fn long_lists_read_from_the_calls_alone() {
+    let stock = stock();
+    let mut random = Random::new(105);
+    let (mut taken_back, mut refused, mut came_back, mut firsts) = (0, 0, 0, 0);
+    for _ in 0..6_000 {
+        let mut made = Vec::new();
+        let mut book = Book::new();
+        if random.one_in(2) {
+            for call in OPEN_AT_FIRST {
+                step(&stock, &mut made, &mut book, call);
+            }
+        }
+        for _ in 0..random.between(1, 40) {
+            let open = |book: &Book| {
+                let codes = 1..=3;
+                codes
+                    .filter(|&code| book.state(code) == Some(State::Open))
+                    .count()
+            };
+            let before = open(&book);
+            let call = random_call(&mut random, &stock);
+            let answer = step(&stock, &mut made, &mut book, call);
+            match (call, answer.0) {
+                (Call::Undo, 0) => {
+                    taken_back += 1;
+                    came_back += open(&book) - before;
+                    firsts += usize::from(book.t().is_none());
+                }
+                (Call::Undo, _) => refused += 1,
+                _ => {}
+            }
+        }
+        let codes: Vec<u32> = (1..=32).collect();
+        assert_places(&stock, &made, &book, &codes);
+    }
+    let met = [taken_back, refused, came_back, firsts];
+    assert!(
+        taken_back > 5_000 && refused > 10_000 && came_back > 500 && firsts > 1_000,
+        "{met:?}"
+    );
+}
+
+/// All lists of these calls up to a length, after some calls to begin with.
+fn all_lists(
+    stock: &Stock,
+    made: &mut Vec<Made>,
+    book: &Book,
+    calls: &[Call],
+    length: usize,
+) -> usize {
+    assert_places(stock, made, book, &[1]);
+    if length == 0 {
+        return 1;
+    }
+    let mut lists = 1;
+    for &call in calls {
+        let mut book = book.clone();
+        step(stock, made, &mut book, call);
+        lists += all_lists(stock, made, &book, calls, length - 1);
+        made.pop();
+    }
+    lists
+}
+
+#[test]
+fn all_short_lists_read_from_the_calls_alone() {
+    let stock = stock();
+    // A tariff that falls by sheet 1 and not by sheet 0, and a sheet that is refused.
+    let calls = [
+        Call::Set(0),
+        Call::Set(1),
+        Call::Set(8),
+        Call::Trial(1),
+        Call::Put(1, 0),
+        Call::Open(1),
+        Call::Close(1),
+        Call::Drop(1),
+        Call::Benchmark,
+        Call::Undo,
+    ];
+    let begins: [&[Call]; 2] = [&[], &OPEN_AT_FIRST[..3]];
+    for begin in begins {
+        let (mut made, mut book) = (Vec::new(), Book::new());
+        for &call in begin {
+            step(&stock, &mut made, &mut book, call);
+        }
+        let lists = all_lists(&stock, &mut made, &book, &calls, 5);
+        assert_eq!(lists, 111_111);
+    }
+}

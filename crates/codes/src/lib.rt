@@ -6,7 +6,7 @@
 // book that has the place (`HasPlace` of the book's definitions).
 ghost use mathlib.Core.Path.{_≡_};
 ghost use mathlib.Core.Bool.{Bool, true};
-ghost use Prim.Native.Nat.{ℕ, _<_};
+ghost use Prim.Native.Nat.{ℕ};
 ghost use Rattle.benchmark.specs.declared.Benchmarks.{Benchmarks};
 ghost use Rattle.benchmark.specs.Lawful.{Lawful};
 ghost use Rattle.tariff.specs.Tariff.{tariffOf};
@@ -94,12 +94,16 @@ pub fn settle(act: CodeAct, code: u32, p: Place, loaded: bool, figures: Benchmar
     }
 }
 
-// What a call on a code came to, with the book: its place stored, and nothing left to take back where it was accepted.
-fn stored(b: Book, at: usize, settled: Settled) -> Done
-    requires { ⌜ at < 32 ⌝ }
-    ensures { λ r. ⌜ r ≡ settledIn b at settled ⌝ }
+// OPEN, CLOSE or DROP: the place of the code is read, settled and stored again.
+pub fn act_on(b: Book, code: u32, act: CodeAct) -> Done
+    requires { ⌜ Handed act b ⌝ }
+    ensures { λ r. ⌜ Does b (call (actOn act code)) r ⌝ }
 {
+    let at = book::index_of(code);
     let mut next = b;
+    let p = next.places[at];
+    let figures = next.benchmarks;
+    let settled = settle(act, code, p, next.loaded, figures);
     let reply = settled.reply;
     let months = settled.months;
     let place = settled.place;
@@ -112,17 +116,6 @@ fn stored(b: Book, at: usize, settled: Settled) -> Done
         months,
         book: next,
     }
-}
-
-// OPEN, CLOSE or DROP: the place of the code is read, settled and stored again.
-pub fn act_on(b: Book, code: u32, act: CodeAct) -> Done
-    requires { ⌜ Handed act b ⌝ }
-    ensures { λ r. ⌜ Does b (call (actOn act code)) r ⌝ }
-{
-    let at = book::index_of(code);
-    let p = b.places[at];
-    let figures = b.benchmarks;
-    stored(b, at, settle(act, code, p, b.loaded, figures))
 }
 
 // PUT (code, tariff). 6, 7, 8. Else the place holds it as a draft, over any draft. The same of its place, and of every book that has it there.
@@ -144,6 +137,20 @@ pub fn put(b: Book, code: u32, x: &[u32]) -> Done
     ensures { λ r. ⌜ Does b (call (PUT code (now (x .entry)))) r ⌝ }
 {
     let at = book::index_of(code);
-    let p = b.places[at];
-    stored(b, at, put_at(code, p, x))
+    let mut next = b;
+    let p = next.places[at];
+    let put = put_at(code, p, x);
+    let reply = put.reply;
+    let months = put.months;
+    let draft = put.place;
+    next.places[at] = draft;
+    let accepted = book::accepted_by(reply);
+    if accepted {
+        next.kept = book::nothing_kept();
+    }
+    Done {
+        reply,
+        months,
+        book: next,
+    }
 }

@@ -1,6 +1,7 @@
 -- `codes::put` meets its contract: the place of the code is read, settled and stored again.
 -- Assumes nothing.
-use mathlib.Core.Path.{refl}
+use mathlib.Core.Path.{refl, sym, _∙_}
+use Rattle.book.proofs.Steps.{kept-if, kept-else, stored-with}
 use Rattle.codes.proofs.Answers.{put-does}
 use borrow.Author.Needs.{needs}
 use Rattle.codes.proofs.put.Statement.{statement}
@@ -18,11 +19,35 @@ element-copy-out-p c = search needs
 put-at-requires : tie.Need-put-at-requires
 put-at-requires c κs = search needs
 
-stored-requires : tie.Need-stored-requires
-stored-requires c κs = c .before .before .index-of .ensures .0
+mul-draft : tie.Need-mul-draft
+mul-draft c = search needs
+
+element-set-from-draft : tie.Need-element-set-from-draft
+element-set-from-draft c = search needs
+
+accepted-by-requires : tie.Need-accepted-by-requires
+accepted-by-requires c κs = search needs
+
+nothing-kept-requires : tie.Need-nothing-kept-requires
+nothing-kept-requires c κs = search needs
 
 returns : tie.Need-returns
-returns c = rw (c .stored .ensures) (put-does _ _ _ _ (c .before .before .before .index-of .ensures .1) refl _ _ (c .before .put-at .ensures .0))
+returns c =
+    let a = c .before .before in
+    let p = a .before .before .before in
+    let i = p .before .before in
+    let b = i .before .before .args .b in
+    stored-with b _ _ (p .put-at .result) _ (c .nothing-kept .ensures ∙ kept-if (p .put-at .result .reply) (b .kept) (sym (a .accepted-by .ensures) ∙ c .before .if1 .taken))
+    (put-does b _ _ _ (i .index-of .ensures .1) refl _ _ (p .put-at .ensures .0))
+
+returns-2 : tie.Need-returns-2
+returns-2 c =
+    let a = c .before in
+    let p = a .before .before .before in
+    let i = p .before .before in
+    let b = i .before .before .args .b in
+    stored-with b _ _ (p .put-at .result) _ (kept-else (p .put-at .result .reply) (b .kept) (sym (a .accepted-by .ensures) ∙ c .if1 .left))
+    (put-does b _ _ _ (i .index-of .ensures .1) refl _ _ (p .put-at .ensures .0))
 
 pub put-spec : {M : Type 1} → statement M
 put-spec =
@@ -32,5 +57,9 @@ put-spec =
     mul-p
     element-copy-out-p
     put-at-requires
-    stored-requires
-    returns)
+    mul-draft
+    element-set-from-draft
+    accepted-by-requires
+    nothing-kept-requires
+    returns
+    returns-2)

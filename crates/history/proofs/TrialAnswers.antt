@@ -5,11 +5,12 @@ use mathlib.Core.Bool.{Bool, true, false, cond, _&&_}
 use mathlib.Core.List.{List, [], _∷_}
 use mathlib.Core.Logic.{_↔_}
 use mathlib.Core.Option.{Option, none, some}
-use Prim.Native.Nat.{ℕ, suc, _<_}
+use Prim.Native.Nat.{ℕ, zero, suc, _+_, _<_}
 use native.Mathlib.Decide.{decLt}
 use native.Mathlib.Omega.{arith}
 use lib.Dec.{eqb}
 use lib.ListN.{drop}
+use lib.Seq.{drop-drop}
 use borrow.Author.Tests.{eqb-true}
 use Rattle.laws.specs.Notions.{bit, setOf}
 use Rattle.laws.proofs.Every.{and-left}
@@ -17,11 +18,11 @@ use Rattle.laws.proofs.Never.{never}
 use Rattle.laws.proofs.Sets.{bit-of-set, bit-past-set}
 use Rattle.tariff.specs.declared.Tariff.{Tariff}
 use Rattle.book.specs.declared.Book.{Book}
-use Rattle.book.specs.Calls.{Sheet, Act, SET, PUT, OPEN, CLOSE, DROP, UNDO, Call, call, accepted, refusalNumber, isAccepted}
+use Rattle.book.specs.Calls.{Sheet, Act, SET, PUT, OPEN, CLOSE, DROP, UNDO, Call, call, refusalNumber, isAccepted}
 use Rattle.book.specs.Checks.{Holding, isOpen, inside, setAnswer, answer}
 use Rattle.book.specs.Book.{bookReadings, step}
 use Rattle.book.proofs.Places.{code-range}
-use Rattle.book.proofs.Accepted.{need-accepted, open-accepted}
+use Rattle.book.proofs.Accepted.{open-accepted}
 use Rattle.stands.proofs.Kept.{none-of}
 use Rattle.queries.specs.Queries.{refused, falling}
 use Rattle.trial.specs.Trial.{isDraft, falls, codesWhere, toldUnless, trialOf}
@@ -60,27 +61,38 @@ module _ (log : List Act) (u : Bool) (has : Tariffed log) where
   tariffed-act (DROP j) e k o = not-open k none (eqb j k) o
   tariffed-act UNDO e k o = has k o
 
--- so it is now, and where there is a SET to take back, without it
-abbrev pub TariffedBack : List Act → Type 0
-TariffedBack log = Tariffed (effective log) × (undoable log ≡ true → Tariffed (drop 1 (effective log)))
+-- so it is of a log and of what is left of it without its newest calls, whichever of them UNDO may take back
+abbrev pub AlwaysTariffed : List Act → Type 0
+AlwaysTariffed log = (n : ℕ) → Tariffed (drop n log)
 
-module _ (log : List Act) (has : TariffedBack log) where
-  noted-act : (a : Act) → isAccepted (answer (readings log) a) ≡ true → TariffedBack (a ∷ log)
-  noted-act (SET s) e = (tariffed-act (effective log) (undoable log) (has .0) (SET s) e, λ q. has .0)
-  noted-act (PUT j x) e = (tariffed-act (effective log) (undoable log) (has .0) (PUT j x) e, λ q. never (cc))
-  noted-act (OPEN j) e = (tariffed-act (effective log) (undoable log) (has .0) (OPEN j) e, λ q. never (cc))
-  noted-act (CLOSE j) e = (tariffed-act (effective log) (undoable log) (has .0) (CLOSE j) e, λ q. never (cc))
-  noted-act (DROP j) e = (tariffed-act (effective log) (undoable log) (has .0) (DROP j) e, λ q. never (cc))
-  noted-act UNDO e = (has .1 (need-accepted (undoable log) 15 accepted e .0), λ q. never (cc))
+one-more : (a : Act) (log : List Act) → Tariffed (a ∷ log) → AlwaysTariffed log → AlwaysTariffed (a ∷ log)
+one-more a log now has zero = now
+one-more a log now has (suc n) = has n
 
-  tariffed-noted : (c : Call) → TariffedBack (noted log c)
+some-less : (m : ℕ) (log : List Act) → AlwaysTariffed log → AlwaysTariffed (drop m log)
+some-less m log has n = subst Tariffed (sym (drop-drop n m log)) (has (m + n))
+
+pub tariffed-at-start : AlwaysTariffed []
+tariffed-at-start zero k e = never (cc)
+tariffed-at-start (suc n) k e = never (cc)
+
+module _ (log : List Act) (has : AlwaysTariffed (effective log)) where
+  noted-act : (a : Act) → isAccepted (answer (readings log) a) ≡ true → AlwaysTariffed (effective (a ∷ log))
+  noted-act (SET s) e = one-more (SET s) (effective log) (tariffed-act (effective log) (undoable log) (has 0) (SET s) e) has
+  noted-act (PUT j x) e = one-more (PUT j x) (effective log) (tariffed-act (effective log) (undoable log) (has 0) (PUT j x) e) has
+  noted-act (OPEN j) e = one-more (OPEN j) (effective log) (tariffed-act (effective log) (undoable log) (has 0) (OPEN j) e) has
+  noted-act (CLOSE j) e = one-more (CLOSE j) (effective log) (tariffed-act (effective log) (undoable log) (has 0) (CLOSE j) e) has
+  noted-act (DROP j) e = one-more (DROP j) (effective log) (tariffed-act (effective log) (undoable log) (has 0) (DROP j) e) has
+  noted-act UNDO e = some-less 1 (effective log) has
+
+  tariffed-noted : (c : Call) → AlwaysTariffed (effective (noted log c))
   tariffed-noted c = go (isAccepted (answer (readings log) (c .act))) refl
     where
-      go : (t : Bool) → isAccepted (answer (readings log) (c .act)) ≡ t → TariffedBack (cond t (c .act ∷ log) log)
+      go : (t : Bool) → isAccepted (answer (readings log) (c .act)) ≡ t → AlwaysTariffed (effective (cond t (c .act ∷ log) log))
       go true e = noted-act (c .act) e
       go false e = has
 
-pub tariffed : (cs : List Call) (log : List Act) → TariffedBack log → TariffedBack (logAfter log cs)
+pub tariffed : (cs : List Call) (log : List Act) → AlwaysTariffed (effective log) → AlwaysTariffed (effective (logAfter log cs))
 unfolding logAfter
 tariffed [] log has = has
 tariffed (c ∷ cs) log has = tariffed cs (noted log c) (tariffed-noted log has c)

@@ -4,7 +4,7 @@ use mathlib.Core.List.{List, [], _∷_}
 use mathlib.Core.Option.{Option, none, some}
 use Prim.Native.Nat.{ℕ}
 use lib.IntN.{natAbs}
-use Rattle.book.specs.Calls.{Answer, accepted, opened, refused, over, refusalNumber}
+use Rattle.book.specs.Calls.{Answer, accepted, cells, refused, over, refusalNumber}
 use Rattle.queries.specs.Queries.{Telling, benchmarkCharge, maximumCharge, quotation, falling}
 use Rattle.queries.specs.Queries as telling
 use Rattle.texts.specs.Texts.{bytesOf, lineOf}
@@ -17,11 +17,11 @@ okOrRefused (some n) numbers = lineOf (bytesOf "refused") (n ∷ numbers)
 -- what an answer carries beside a refusal's number
 abbrev pub carried : Answer → List ℕ
 carried accepted = []
-carried (opened cells) = cells ∷ []
+carried (cells n) = n ∷ []
 carried (refused n) = []
 carried (over c months excess) = c .region ∷ c .method ∷ natAbs excess ∷ months
 
--- set, put, open, close, drop: ok | ok CELLS | refused N | refused 11 REGION METHOD EXCESS M1 .. Mt
+-- set, put, open, close, drop, undo, ask, confirm: ok | ok CELLS | refused N | refused 11 REGION METHOD EXCESS M1 .. Mt
 abbrev pub answerText : Answer → List ℕ
 answerText a = okOrRefused (refusalNumber a) (carried a)
 

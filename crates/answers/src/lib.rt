@@ -79,14 +79,14 @@ fn put_over(
     texts::put_line(out, at, b"refused", &numbers)
 }
 
-// The answer of SET, PUT, OPEN, CLOSE or DROP, with the months that stand beside it.
+// The answer of SET, PUT, OPEN, CLOSE, DROP, UNDO, ASK or CONFIRM, with the months that stand beside it.
 pub fn put_reply(out: &mut [u8], at: usize, reply: Reply, months: [u32; 12]) -> usize
     requires { ⌜ at + answerRoom ≤ length (now out) ⌝ }
     ensures { λ r. ⌜ Puts (now (out .entry)) at (answerText (answerOf reply months)) r (now (out .exit)) ⌝ }
 {
     match reply {
         Reply::Accepted => texts::put_text(out, at, b"ok\n"),
-        Reply::Opened(cells) => put_ok(out, at, cells as u64),
+        Reply::Cells(cells) => put_ok(out, at, cells as u64),
         Reply::Refused(n) => put_refused(out, at, n),
         Reply::Over(region, method, t, excess) => {
             put_over(out, at, region, method, t, excess, months)

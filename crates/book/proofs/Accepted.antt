@@ -4,14 +4,15 @@ use mathlib.Core.Path.{_≡_, refl}
 use mathlib.Core.Bool.{Bool, true, false, not}
 use mathlib.Core.Option.{Option, none, some}
 use Prim.Native.Nat.{ℕ}
+use borrow.Author.Tests.{not-true}
 use Rattle.laws.proofs.Never.{never}
 use Rattle.refusal.specs.declared.Check.{Check}
 use Rattle.refusal.specs.declared.Check.the-variants.{Pass, Refuse}
 use Rattle.refusal.specs.Checks.{checked, need, given}
 use Rattle.tariff.specs.Tariff.{recordCheck}
-use Rattle.verdict.specs.Cells.{Cell, verdictAt, verdict, firstOver}
-use Rattle.book.specs.Calls.{Sheet, Record, Answer, accepted, refused, isAccepted}
-use Rattle.book.specs.Checks.{Holding, isOpen, figuresOf, inside, verdictAnswer, putAnswer, openAnswer, closeAnswer, dropAnswer}
+use Rattle.verdict.specs.Cells.{Cell, cellCount, verdictAt, verdict, firstOver}
+use Rattle.book.specs.Calls.{Sheet, Record, Answer, accepted, cells, refused, isAccepted}
+use Rattle.book.specs.Checks.{Holding, isOpen, figuresOf, inside, verdictAnswer, putAnswer, openAnswer, closeAnswer, dropAnswer, confirmAnswer}
 
 pub checked-accepted : (c : Check) (a : Answer) → isAccepted (checked refused c a) ≡ true → (c ≡ Pass) × (isAccepted a ≡ true)
 checked-accepted Pass a e = (refl, e)
@@ -39,25 +40,42 @@ put-accepted k held x e =
     let g = need-accepted (not (isOpen held)) 7 _ (f .1) in
     (f .0, checked-accepted (recordCheck x) accepted (g .1) .0)
 
--- OPEN, CLOSE and DROP: the code is in range, and its place holds something
+-- CLOSE and DROP: the code is in range, and CLOSE's place holds an open tariff
 pub close-accepted : (k : ℕ) (held : Option Holding) → isAccepted (closeAnswer k held) ≡ true
-    → (inside k ≡ true) × (h : Holding) × (held ≡ some h)
+    → (inside k ≡ true) × (h : Holding) × (held ≡ some h) × (h .isOpen ≡ true)
 close-accepted k held e =
     let f = need-accepted (inside k) 6 _ e in
     let g = given-accepted held 9 _ (f .1) in
-    (f .0, g .0, g .1)
+    (f .0, g .0, g .1, need-accepted (g .0 .isOpen) 12 accepted (g .2) .0)
 
 pub drop-accepted : (k : ℕ) (held : Option Holding) → isAccepted (dropAnswer k held) ≡ true → inside k ≡ true
 drop-accepted k held e = need-accepted (inside k) 6 _ e .0
 
--- OPEN: a sheet is in force, and with it the tariff exceeds nowhere
+-- CONFIRM: the code is in range, and its place holds a marked draft
+pub confirm-accepted : (k : ℕ) (held : Option Holding) → isAccepted (confirmAnswer k held) ≡ true
+    → (inside k ≡ true) × (h : Holding) × (held ≡ some h) × (h .isMarked ≡ true)
+confirm-accepted k held e =
+    let f = need-accepted (inside k) 6 _ e in
+    let g = given-accepted held 9 _ (f .1) in
+    let d = need-accepted (not (g .0 .isOpen)) 7 _ (g .2) in
+    (f .0, g .0, g .1, need-accepted (g .0 .isMarked) 16 _ (d .1) .0)
+
+-- OPEN and ASK: a sheet is in force, with it the tariff exceeds nowhere, and the answer is the number of its cells
 pub record Opens (k : ℕ) (held : Option Holding) (sheet : Option Sheet) : Type 0 where
   pub code : inside k ≡ true
   pub h : Holding
   pub its : held ≡ some h
+  pub shut : h .isOpen ≡ false
   pub s : Sheet
   pub in-force : sheet ≡ some s
   pub none-over : firstOver (figuresOf s) (h .tariff) ≡ none
+  pub answers : openAnswer k held sheet ≡ cells (cellCount (h .tariff))
+
+with-cells : (k : ℕ) (held : Option Holding) (sheet : Option Sheet) (h : Holding) (s : Sheet)
+    → inside k ≡ true → held ≡ some h → not (h .isOpen) ≡ true → sheet ≡ some s → firstOver (figuresOf s) (h .tariff) ≡ none
+    → openAnswer k held sheet ≡ cells (cellCount (h .tariff))
+unfolding verdict
+with-cells k held sheet h s i g o f v = rw (i, g, o, f, v)
 
 pub open-accepted : (k : ℕ) (held : Option Holding) (sheet : Option Sheet) → isAccepted (openAnswer k held sheet) ≡ true → Opens k held sheet
 unfolding verdict
@@ -67,4 +85,4 @@ open-accepted k held sheet e =
     let d = need-accepted (not (g .0 .isOpen)) 7 _ (g .2) in
     let i = given-accepted sheet 10 _ (d .1) in
     let v = verdict-accepted (i .0) (g .0) (firstOver (figuresOf (i .0)) (g .0 .tariff)) refl (i .2) in
-    record { code = f .0; h = g .0; its = g .1; s = i .0; in-force = i .1; none-over = v }
+    record { code = f .0; h = g .0; its = g .1; shut = not-true (g .0 .isOpen) (d .0); s = i .0; in-force = i .1; none-over = v; answers = with-cells k held sheet (g .0) (i .0) (f .0) (g .1) (d .0) (i .1) v }

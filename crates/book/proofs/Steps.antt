@@ -76,7 +76,7 @@ same-place b at p e = ap (λ ps. withPlaces b ps (b .kept)) (set-read (b .places
 -- what is kept for UNDO goes by whether the answer accepts
 kept-by : (q : Reply) (months : List ℕ) (k : Kept) → keptAfter q k ≡ cond (isAccepted (answerOf q months)) nothingKept k
 kept-by reply.Accepted months k = refl
-kept-by (reply.Opened cells) months k = refl
+kept-by (reply.Cells number) months k = refl
 kept-by (reply.Refused number) months k = refl
 kept-by (reply.Over region method t excess) months k = refl
 

@@ -13,12 +13,12 @@ use Rattle.benchmark.specs.Benchmark.{noBenchmarks}
 use Rattle.tariff.specs.declared.Tariff.{Tariff}
 use Rattle.tariff.specs.Tariff.{tariffOf}
 use Rattle.book.specs.declared.State.{State}
-use Rattle.book.specs.declared.State.the-variants.{Empty, Draft, Open}
+use Rattle.book.specs.declared.State.the-variants.{Empty, Draft, Marked, Open}
 use Rattle.book.specs.declared.Place.{Place}
 use Rattle.book.specs.declared.Stood.{Stood}
 use Rattle.book.specs.declared.Kept.{Kept}
 use Rattle.book.specs.declared.Book.{Book}
-use Rattle.book.specs.Calls.{Sheet, sheetAt, Act, SET, PUT, OPEN, CLOSE, DROP, UNDO, Call, Answer, isAccepted}
+use Rattle.book.specs.Calls.{Sheet, sheetAt, Act, SET, PUT, OPEN, CLOSE, DROP, UNDO, ASK, CONFIRM, Call, Answer, isAccepted}
 use Rattle.book.specs.Checks.{Holding, Readings, figuresOf, complies, answer}
 
 -- a place is a state beside the numbers of a tariff: one made of the two, and the tariff of one
@@ -69,14 +69,15 @@ abbrev pub setPlace : List Place → ℕ → Place → List Place
 setPlace ps zero p = ps
 setPlace ps (suc i) p = set ps i p
 
--- "A place holds nothing, a draft or an open tariff."
-abbrev pub holding : Tariff → Bool → Holding
-holding x o = record { tariff = x; isOpen = o }
+-- "A place holds nothing, a draft or an open tariff"; ASK "marks the draft", and "an open tariff has no mark"
+abbrev pub holding : Tariff → Bool → Bool → Holding
+holding x o m = record { tariff = x; isOpen = o; isMarked = m }
 
 abbrev pub heldIn : State → Tariff → Option Holding
 heldIn Empty x = none
-heldIn Draft x = some (holding x false)
-heldIn Open x = some (holding x true)
+heldIn Draft x = some (holding x false false)
+heldIn Marked x = some (holding x false true)
+heldIn Open x = some (holding x true false)
 
 abbrev pub held : Place → Option Holding
 held p = heldIn (p .state) (tariffIn p)
@@ -100,11 +101,12 @@ abbrev pub withPlaces : Book → List Place → Kept → Book
 withPlaces b ps kept =
     record { loaded = b .loaded; fields = b .fields; period = b .period; benchmarks = b .benchmarks; places = ps; kept = kept }
 
--- one place changed: UNDO is "allowed only while no PUT, OPEN, CLOSE or DROP has been accepted since that SET"
+-- one place changed: UNDO is "allowed only while no PUT, OPEN, CLOSE or DROP has been accepted since that SET", and "an accepted ASK or
+-- CONFIRM ends the chance"
 abbrev pub withPlace : Book → ℕ → Place → Book
 withPlace b k p = withPlaces b (setPlace (b .places) k p) nothingKept
 
--- SET: "each open tariff that exceeds somewhere becomes a draft, the others staying open"
+-- SET: "each open tariff that exceeds somewhere becomes a draft, the others staying open", and it "clears the mark" of every draft
 abbrev pub openIf : Bool → State
 openIf true = Open
 openIf false = Draft
@@ -112,6 +114,7 @@ openIf false = Draft
 abbrev pub stateUnder : Benchmarks → State → Tariff → State
 stateUnder f Empty x = Empty
 stateUnder f Draft x = Draft
+stateUnder f Marked x = Draft
 stateUnder f Open x = openIf (complies f x)
 
 abbrev pub under : Benchmarks → Place → Place
@@ -141,6 +144,8 @@ changed b (OPEN k) = withPlace b k (withState Open (placeOf (b .places) k))
 changed b (CLOSE k) = withPlace b k (withState Draft (placeOf (b .places) k))
 changed b (DROP k) = withPlace b k empty
 changed b UNDO = restored b
+changed b (ASK k) = withPlace b k (withState Marked (placeOf (b .places) k))
+changed b (CONFIRM k) = withPlace b k (withState Open (placeOf (b .places) k))
 
 -- what a call comes to: its answer and the book after it. "Any call refused changes nothing."
 pub record Effect : Type 0 where

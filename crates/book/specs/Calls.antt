@@ -27,6 +27,8 @@ pub data Act : Type 0 where
   CLOSE : ℕ → Act
   DROP : ℕ → Act
   UNDO : Act
+  ASK : ℕ → Act
+  CONFIRM : ℕ → Act
 
 -- a call: an act; whose call it is makes no difference
 pub record Call : Type 0 where
@@ -35,18 +37,18 @@ pub record Call : Type 0 where
 abbrev pub call : Act → Call
 call a = record { act = a }
 
--- "answers only that it was accepted"; opened, "with the number of cells"; "a refusal returns its number, with 11 the figures named":
--- the cell, the months and the excess
+-- "answers only that it was accepted"; accepted with "the number of cells", of OPEN, ASK and CONFIRM; "a refusal returns its number, with 11
+-- the figures named": the cell, the months and the excess
 pub data Answer : Type 0 where
   accepted : Answer
-  opened : (cells : ℕ) → Answer
+  cells : (number : ℕ) → Answer
   refused : (number : ℕ) → Answer
   over : (first : Cell) (months : List ℕ) (excess : ℤ) → Answer
 
 -- "A refusal returns its number": the number of an answer that is a refusal, 11 for one over the cap
 abbrev pub refusalNumber : Answer → Option ℕ
 refusalNumber accepted = none
-refusalNumber (opened cells) = none
+refusalNumber (cells n) = none
 refusalNumber (refused n) = some n
 refusalNumber (over c months e) = some 11
 

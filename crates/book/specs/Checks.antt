@@ -1,4 +1,4 @@
--- The checks of SET, PUT, OPEN, CLOSE, DROP and UNDO: a line a call, in the order of documents 01 and 02.
+-- The checks of SET, PUT, OPEN, CLOSE, DROP, UNDO, ASK and CONFIRM: a line a call, in the order of documents 01 and 02.
 -- Assumes nothing.
 use mathlib.Core.Bool.{Bool, false, not, _&&_}
 use mathlib.Core.Option.{Option, none, some}
@@ -9,14 +9,15 @@ use Rattle.benchmark.specs.declared.Benchmarks.{Benchmarks}
 use Rattle.benchmark.specs.Benchmark.{benchmarksOf, setCheck}
 use Rattle.tariff.specs.declared.Tariff.{Tariff}
 use Rattle.tariff.specs.Tariff.{recordCheck}
-use Rattle.verdict.specs.Cells.{Verdict, opens, verdict, firstOver}
-use Rattle.verdict.specs.Cells as cells
-use Rattle.book.specs.Calls.{Sheet, Record, Act, SET, PUT, OPEN, CLOSE, DROP, UNDO, Answer, accepted, opened, refused, over, isNone}
+use Rattle.verdict.specs.Cells.{Verdict, opens, cellCount, verdict, firstOver}
+use Rattle.verdict.specs.Cells as verdicts
+use Rattle.book.specs.Calls.{Sheet, Record, Act, SET, PUT, OPEN, CLOSE, DROP, UNDO, ASK, CONFIRM, Answer, accepted, cells, refused, over, isNone}
 
--- what a place holds: a tariff, and whether it is open
+-- what a place holds: a tariff, whether it is open and whether it is a marked draft
 pub record Holding : Type 0 where
   pub tariff : Tariff
   pub isOpen : Bool
+  pub isMarked : Bool
 
 -- what the checks of a call look at: the sheet in force, what the place of a code holds, or nothing, and whether there is a SET to
 -- take back
@@ -43,8 +44,8 @@ inside k = leb 1 k && leb k 32
 
 -- 11: over the cap; "Else open; the answer carries the number of cells"
 abbrev pub verdictAnswer : Verdict → Answer
-verdictAnswer (opens n) = opened n
-verdictAnswer (cells.over c months e) = over c months e
+verdictAnswer (opens n) = cells n
+verdictAnswer (verdicts.over c months e) = over c months e
 
 -- SET: 1 to 4, 14 and 5
 abbrev pub setAnswer : Sheet → Answer
@@ -54,7 +55,7 @@ setAnswer s = checked refused (setCheck (s .fields) (s .period)) accepted
 abbrev pub putAnswer : ℕ → Option Holding → Record → Answer
 putAnswer k held x = need refused (inside k) 6 (need refused (not (isOpen held)) 7 (checked refused (recordCheck x) accepted))
 
--- OPEN. 6. 9: the place is empty. 7. 10: no sheet. 11
+-- OPEN, and ASK, which "does the checks of OPEN, with its refusals". 6. 9: the place is empty. 7. 10: no sheet. 11
 abbrev pub openAnswer : ℕ → Option Holding → Option Sheet → Answer
 openAnswer k held sheet =
     need refused (inside k) 6
@@ -73,6 +74,13 @@ dropAnswer k held = need refused (inside k) 6 (given refused held 9 (λ h. need 
 abbrev pub undoAnswer : Bool → Answer
 undoAnswer mayUndo = need refused mayUndo 15 accepted
 
+-- CONFIRM. 6. 9. 7. 16: the draft is not marked. "Both answer the number of cells, as OPEN does"
+abbrev pub confirmAnswer : ℕ → Option Holding → Answer
+confirmAnswer k held =
+    need refused (inside k) 6
+    (given refused held 9
+    (λ h. need refused (not (h .isOpen)) 7 (need refused (h .isMarked) 16 (cells (cellCount (h .tariff))))))
+
 -- the answer that the checks of a call give for such readings
 abbrev pub answer : Readings → Act → Answer
 answer r (SET s) = setAnswer s
@@ -81,3 +89,5 @@ answer r (OPEN k) = openAnswer k (r .held k) (r .sheet)
 answer r (CLOSE k) = closeAnswer k (r .held k)
 answer r (DROP k) = dropAnswer k (r .held k)
 answer r UNDO = undoAnswer (r .mayUndo)
+answer r (ASK k) = openAnswer k (r .held k) (r .sheet)
+answer r (CONFIRM k) = confirmAnswer k (r .held k)

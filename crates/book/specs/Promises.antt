@@ -1,4 +1,4 @@
--- What the code's answers say in document 01's words, and what each of the six calls that may change the book promises.
+-- What the code's answers say in document 01's words, and what each of the eight calls that may change the book promises.
 -- Assumes nothing.
 use mathlib.Core.Path.{_≡_}
 use mathlib.Core.List.{List}
@@ -10,20 +10,20 @@ use Rattle.book.specs.declared.Reply.{Reply}
 use Rattle.book.specs.declared.Reply.the-variants as reply
 use Rattle.book.specs.declared.Done.{Done}
 use Rattle.book.specs.declared.Book.{Book}
-use Rattle.book.specs.Calls.{Call, Answer, accepted, opened, refused, over}
+use Rattle.book.specs.Calls.{Call, Answer, accepted, cells, refused, over}
 use Rattle.book.specs.Book.{step}
 
 -- the answer of a reply, with the months that stand beside it: over the cap, the first t of them are those of the answer
 abbrev pub answerOf : Reply → List ℕ → Answer
 answerOf reply.Accepted months = accepted
-answerOf (reply.Opened cells) months = opened cells
+answerOf (reply.Cells n) months = cells n
 answerOf (reply.Refused number) months = refused number
 answerOf (reply.Over region method t excess) months = over (cell region method) (take t months) (pos excess)
 
 -- how many months an answer carries; the places past them are 0
 abbrev pub monthsIn : Reply → ℕ
 monthsIn reply.Accepted = 0
-monthsIn (reply.Opened n) = 0
+monthsIn (reply.Cells n) = 0
 monthsIn (reply.Refused n) = 0
 monthsIn (reply.Over r m t e) = t
 

@@ -9,7 +9,7 @@ use Rattle.refusal.specs.declared.Check.the-variants.{Pass, Refuse}
 use Rattle.refusal.specs.Checks.{unless, first, checked}
 use Rattle.benchmark.specs.declared.Benchmarks.{Benchmarks}
 use Rattle.book.specs.declared.State.{State}
-use Rattle.book.specs.declared.State.the-variants.{Empty, Draft, Open}
+use Rattle.book.specs.declared.State.the-variants.{Empty, Draft, Marked, Open}
 use Rattle.book.specs.declared.Reply.{Reply}
 use Rattle.book.specs.declared.Reply.the-variants as reply
 use Rattle.book.specs.declared.Place.{Place}
@@ -26,16 +26,24 @@ use Rattle.book.specs.Promises.{answerOf, NoughtPast}
 abbrev pub codeCheck : ℕ → Check
 codeCheck k = unless (inside k) 6 Pass
 
--- the checks that look at the state of a place: 9, 7 and 12
+-- the checks that look at the state of a place: 9, 7, 12 and 16
 abbrev pub isFilled : State → Bool
 isFilled Empty = false
 isFilled Draft = true
+isFilled Marked = true
 isFilled Open = true
 
 abbrev pub isOpenState : State → Bool
 isOpenState Empty = false
 isOpenState Draft = false
+isOpenState Marked = false
 isOpenState Open = true
+
+abbrev pub isMarkedState : State → Bool
+isMarkedState Empty = false
+isMarkedState Draft = false
+isMarkedState Marked = true
+isMarkedState Open = false
 
 abbrev pub emptyCheck : State → Check
 emptyCheck s = unless (isFilled s) 9 Pass
@@ -45,6 +53,9 @@ openCheck s = unless (not (isOpenState s)) 7 Pass
 
 abbrev pub closedCheck : State → Check
 closedCheck s = unless (isOpenState s) 12 Pass
+
+abbrev pub markCheck : State → Check
+markCheck s = unless (isMarkedState s) 16 Pass
 
 -- 6 and 9, and then the checks of a call's own
 abbrev pub heldCheck : ℕ → State → Check → Check
@@ -70,7 +81,7 @@ doneBy check b = record { reply = replyOf check; months = replicate 12 0; book =
 -- what is kept for UNDO after a call on a code: an accepted one ends the chance, and "any call refused changes nothing"
 abbrev pub acceptedBy : Reply → Bool
 acceptedBy reply.Accepted = true
-acceptedBy (reply.Opened cells) = true
+acceptedBy (reply.Cells number) = true
 acceptedBy (reply.Refused number) = false
 acceptedBy (reply.Over region method t excess) = false
 

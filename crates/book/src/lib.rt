@@ -8,7 +8,7 @@ ghost use Prim.Native.Nat.{suc, _<_};
 ghost use Rattle.refusal.specs.declared.Check.the-variants.{Pass};
 ghost use Rattle.refusal.specs.Checks.{unless};
 ghost use Rattle.book.specs.Checks.{inside};
-ghost use Rattle.book.specs.Settling.{codeCheck, emptyCheck, openCheck, closedCheck, heldCheck, replyOf, settledBy, doneBy, acceptedBy};
+ghost use Rattle.book.specs.Settling.{codeCheck, emptyCheck, openCheck, closedCheck, markCheck, heldCheck, replyOf, settledBy, doneBy, acceptedBy};
 ghost use Rattle.book.specs.Book.{empty, fresh, nothingKept, placeWith, tariffIn, withState};
 use benchmark::Benchmarks;
 use calendar::Period;
@@ -16,10 +16,11 @@ use refusal::Check;
 use sheet::FIELD_COUNT;
 use tariff::Tariff;
 
-// A place holds nothing, a draft or an open tariff.
+// A place holds nothing, a draft, a marked draft or an open tariff.
 pub enum State {
     Empty,
     Draft,
+    Marked,
     Open,
 }
 
@@ -60,11 +61,11 @@ pub struct Book {
     pub kept: Kept,
 }
 
-// An answer: accepted; opened, with the number of cells; refused, with its number; or refused by 11, with region, method, the
+// An answer: accepted; accepted, with the number of cells; refused, with its number; or refused by 11, with region, method, the
 // number of months that stand beside it, and the excess.
 pub enum Reply {
     Accepted,
-    Opened(u32),
+    Cells(u32),
     Refused(u32),
     Over(u32, u32, u32, u64),
 }
@@ -210,6 +211,7 @@ pub fn empty_check(p: Place) -> Check
     match state {
         State::Empty => Check::Refuse(9),
         State::Draft => Check::Pass,
+        State::Marked => Check::Pass,
         State::Open => Check::Pass,
     }
 }
@@ -222,6 +224,7 @@ pub fn open_check(p: Place) -> Check
     match state {
         State::Empty => Check::Pass,
         State::Draft => Check::Pass,
+        State::Marked => Check::Pass,
         State::Open => Check::Refuse(7),
     }
 }
@@ -234,7 +237,21 @@ pub fn closed_check(p: Place) -> Check
     match state {
         State::Empty => Check::Refuse(12),
         State::Draft => Check::Refuse(12),
+        State::Marked => Check::Refuse(12),
         State::Open => Check::Pass,
+    }
+}
+
+// 16: the draft is not marked.
+pub fn mark_check(p: Place) -> Check
+    ensures { λ r. ⌜ r ≡ markCheck (p .state) ⌝ }
+{
+    let state = p.state;
+    match state {
+        State::Empty => Check::Refuse(16),
+        State::Draft => Check::Refuse(16),
+        State::Marked => Check::Pass,
+        State::Open => Check::Refuse(16),
     }
 }
 
@@ -303,7 +320,7 @@ pub fn accepted_by(reply: Reply) -> bool
 {
     match reply {
         Reply::Accepted => true,
-        Reply::Opened(_) => true,
+        Reply::Cells(_) => true,
         Reply::Refused(_) => false,
         Reply::Over(_, _, _, _) => false,
     }

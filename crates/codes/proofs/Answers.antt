@@ -1,4 +1,4 @@
--- The answers of PUT, OPEN, CLOSE and DROP by the checks that the code makes on the place of the code, and what settles a place.
+-- The answers of PUT, OPEN, ASK, CONFIRM, CLOSE and DROP by the checks that the code makes on the place of the code, and what settles a place.
 -- Assumes nothing.
 use mathlib.Core.Path.{_≡_, refl, sym, _∙_, ap, ap₂, subst}
 use mathlib.Core.Bool.{Bool, true, false, not, cond}
@@ -13,23 +13,23 @@ use Rattle.refusal.proofs.Checks.{unless-passes, first-passes}
 use Rattle.benchmark.specs.declared.Benchmarks.{Benchmarks}
 use Rattle.tariff.specs.declared.Tariff.{Tariff}
 use Rattle.tariff.specs.Tariff.{tariffOf, validTariff, recordCheck}
-use Rattle.verdict.specs.Cells.{verdict}
+use Rattle.verdict.specs.Cells.{cellCount, verdict}
 use Rattle.book.specs.declared.State.{State}
-use Rattle.book.specs.declared.State.the-variants.{Empty, Draft, Open}
+use Rattle.book.specs.declared.State.the-variants.{Empty, Draft, Marked, Open}
 use Rattle.book.specs.declared.Place.{Place}
 use Rattle.book.specs.declared.Settled.{Settled}
 use Rattle.book.specs.declared.Book.{Book}
-use Rattle.book.specs.Calls.{Sheet, Record, PUT, call, Answer, accepted, refused, isAccepted}
+use Rattle.book.specs.Calls.{Sheet, Record, PUT, OPEN, call, Answer, accepted, cells, refused, isAccepted}
 use Rattle.book.specs.Checks.{isOpen, figuresOf, inside, verdictAnswer, answer}
-use Rattle.book.specs.Book.{placeWith, tariffIn, beyond, placeOf, heldIn, sheetIf, sheetIn, inForce, bookReadings, withPlace, changed}
+use Rattle.book.specs.Book.{placeWith, tariffIn, beyond, placeOf, heldIn, sheetIf, sheetIn, inForce, bookReadings, withPlace, changed, Reachable}
 use Rattle.book.specs.Promises.{answerOf, NoughtPast, Does}
-use Rattle.book.specs.Settling.{codeCheck, emptyCheck, openCheck, closedCheck, heldCheck, settledBy, settledIn, Settles}
+use Rattle.book.specs.Settling.{codeCheck, emptyCheck, openCheck, closedCheck, markCheck, heldCheck, settledBy, settledIn, Settles}
 use Rattle.book.proofs.Steps.{settles, read-there, settles-does}
 use Rattle.stands.specs.Stands.{HoldsValid, HoldsValidAs}
 use Rattle.stands.proofs.InForce.{figures-are, figures-lawful, holds-at}
 use Rattle.codes.specs.declared.CodeAct.{CodeAct}
 use Rattle.codes.specs.declared.CodeAct.the-variants as act
-use Rattle.codes.specs.Codes.{actOn, restOn, nextOn, placeOn, SettlesOn, Judgeable, Handed, putChecks}
+use Rattle.codes.specs.Codes.{actOn, openRest, restOn, nextOn, placeOn, SettlesOn, Judgeable, Handed, putChecks}
 
 -- each call's table is its checks, one after the other
 put-table : (t : Bool) (s : State) (x : Tariff) (c : Check)
@@ -38,6 +38,7 @@ put-table : (t : Bool) (s : State) (x : Tariff) (c : Check)
 put-table false s x c = refl
 put-table true Empty x c = refl
 put-table true Draft x c = refl
+put-table true Marked x c = refl
 put-table true Open x c = refl
 
 close-table : (t : Bool) (s : State) (x : Tariff)
@@ -46,6 +47,7 @@ close-table : (t : Bool) (s : State) (x : Tariff)
 close-table false s x = refl
 close-table true Empty x = refl
 close-table true Draft x = refl
+close-table true Marked x = refl
 close-table true Open x = refl
 
 drop-table : (t : Bool) (s : State) (x : Tariff)
@@ -54,7 +56,17 @@ drop-table : (t : Bool) (s : State) (x : Tariff)
 drop-table false s x = refl
 drop-table true Empty x = refl
 drop-table true Draft x = refl
+drop-table true Marked x = refl
 drop-table true Open x = refl
+
+confirm-table : (t : Bool) (s : State) (x : Tariff)
+    → need refused t 6 (given refused (heldIn s x) 9 (λ h. need refused (not (h .isOpen)) 7 (need refused (h .isMarked) 16 (cells (cellCount (h .tariff))))))
+    ≡ checked refused (first (unless t 6 Pass) (first (emptyCheck s) (first (openCheck s) (markCheck s)))) (cells (cellCount x))
+confirm-table false s x = refl
+confirm-table true Empty x = refl
+confirm-table true Draft x = refl
+confirm-table true Marked x = refl
+confirm-table true Open x = refl
 
 open-table : (t : Bool) (s : State) (x : Tariff) (l : Bool) (sheet : Sheet) (f : Benchmarks) → (l ≡ true → f ≡ figuresOf sheet)
     → need refused t 6 (given refused (heldIn s x) 9 (λ h. need refused (not (h .isOpen)) 7 (given refused (sheetIf l sheet) 10 (λ d. verdictAnswer (verdict (figuresOf d) (h .tariff))))))
@@ -64,14 +76,23 @@ open-table true Empty x l sheet f e = refl
 open-table true Open x l sheet f e = refl
 open-table true Draft x false sheet f e = refl
 open-table true Draft x true sheet f e = ap (λ g. verdictAnswer (verdict g x)) (sym (e refl))
+open-table true Marked x false sheet f e = refl
+open-table true Marked x true sheet f e = ap (λ g. verdictAnswer (verdict g x)) (sym (e refl))
 
 -- the place at the index of the code
 module _ (b : Book) (k at : ℕ) (p : Place) (index : inside k ≡ true → suc at ≡ k) (there : getD (b .places) at beyond ≡ p) where
-  act-answer : (a : CodeAct) → Handed a b
-      → answer (bookReadings b) (actOn a k) ≡ checked refused (heldCheck k (p .state) (restOn a (p .state) (b .loaded))) (nextOn a (b .benchmarks) p)
-  act-answer act.Open f =
+  open-there : Reachable b → answer (bookReadings b) (OPEN k) ≡ checked refused (heldCheck k (p .state) (openRest (p .state) (b .loaded))) (verdictAnswer (verdict (b .benchmarks) (tariffIn p)))
+  open-there f =
       read-there b k at p index there refused (λ o. given refused o 9 (λ h. need refused (not (h .isOpen)) 7 (given refused (inForce b) 10 (λ d. verdictAnswer (verdict (figuresOf d) (h .tariff))))))
       ∙ open-table (inside k) (p .state) (tariffIn p) (b .loaded) (sheetIn b) (b .benchmarks) (figures-are b f)
+
+  act-answer : (a : CodeAct) → Handed a b
+      → answer (bookReadings b) (actOn a k) ≡ checked refused (heldCheck k (p .state) (restOn a (p .state) (b .loaded))) (nextOn a (b .benchmarks) p)
+  act-answer act.Open f = open-there f
+  act-answer act.Ask f = open-there f
+  act-answer act.Confirm f =
+      read-there b k at p index there refused (λ o. given refused o 9 (λ h. need refused (not (h .isOpen)) 7 (need refused (h .isMarked) 16 (cells (cellCount (h .tariff))))))
+      ∙ confirm-table (inside k) (p .state) (tariffIn p)
   act-answer act.Close f =
       read-there b k at p index there refused (λ o. given refused o 9 (λ h. need refused (h .isOpen) 12 accepted))
       ∙ close-table (inside k) (p .state) (tariffIn p)
@@ -83,6 +104,8 @@ module _ (b : Book) (k at : ℕ) (p : Place) (index : inside k ≡ true → suc 
   act-changes act.Open = refl
   act-changes act.Close = refl
   act-changes act.Drop = refl
+  act-changes act.Ask = refl
+  act-changes act.Confirm = refl
 
   pub act-does : (a : CodeAct) (r : Settled) → Handed a b
       → SettlesOn a k p (b .loaded) (b .benchmarks) r → Does b (call (actOn a k)) (settledIn b at r)
@@ -98,11 +121,13 @@ module _ (b : Book) (k at : ℕ) (p : Place) (index : inside k ≡ true → suc 
       ∙ put-table (inside k) (p .state) (tariffIn p) (recordCheck x))
       refl h
 
--- what OPEN asks of the place and the figures, a reachable book has
+-- what OPEN and ASK ask of the place and the figures, a reachable book has
 pub judgeable : (a : CodeAct) (b : Book) (at : ℕ) → at < 32 → Handed a b → Judgeable a (getD (b .places) at beyond) (b .loaded) (b .benchmarks)
 judgeable act.Open b at l h = (figures-lawful b h, holds-at b h at l)
 judgeable act.Close b at l h = tt
 judgeable act.Drop b at l h = tt
+judgeable act.Ask b at l h = (figures-lawful b h, holds-at b h at l)
+judgeable act.Confirm b at l h = tt
 
 -- a place that its checks alone settle
 pub by-checks : (check k : Check) (p q d : Place) (r : Settled) → r ≡ settledBy k p d → k ≡ check → d ≡ q → Settles check accepted p q r
@@ -126,9 +151,10 @@ passed-by check next a p q r e f g h z =
 draft : (s : State) (x : Tariff) → emptyCheck s ≡ Pass → openCheck s ≡ Pass → HoldsValidAs s x → validTariff x ≡ true
 draft Empty x e f h = never (cc)
 draft Draft x e f h = h
+draft Marked x e f h = h
 draft Open x e f h = never (cc)
 
-pub open-passed : (k : ℕ) (p : Place) (loaded : Bool) → HoldsValid p → heldCheck k (p .state) (restOn act.Open (p .state) loaded) ≡ Pass
+pub open-passed : (k : ℕ) (p : Place) (loaded : Bool) → HoldsValid p → heldCheck k (p .state) (openRest (p .state) loaded) ≡ Pass
     → (validTariff (tariffIn p) ≡ true) × (loaded ≡ true)
 open-passed k p loaded h e =
     let past-6 = first-passes (codeCheck k) _ e .1 in

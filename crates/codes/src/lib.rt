@@ -1,7 +1,7 @@
-// The calls on a code: PUT, OPEN, CLOSE and DROP.
+// The calls on a code: PUT, OPEN, ASK, CONFIRM, CLOSE and DROP.
 // Promise: each answers and leaves what `step` of the book's definitions says, on refused input too; 11 carries the first cell that
 // exceeds, t months and their excess. `act_on` is the one body of the calls that take a code alone: they differ in what they do to one
-// place. OPEN requires document 01's own sentence on the book, `Reachable`; the others require nothing. Who holds a book in a local of
+// place. OPEN and ASK, which share their checks, require document 01's own sentence on the book, `Reachable`; the others require nothing. Who holds a book in a local of
 // their own may settle a place (`settle`, `put_at`) and store it, which copies no book and is the same call: their contracts say so of every
 // book that has the place (`HasPlace` of the book's definitions).
 ghost use mathlib.Core.Path.{_≡_};
@@ -16,7 +16,7 @@ ghost use Rattle.book.specs.Book.{placeWith};
 ghost use Rattle.book.specs.Promises.{Does};
 ghost use Rattle.book.specs.Settling.{settledIn, Settles, HasPlace};
 ghost use Rattle.stands.specs.Stands.{HoldsValid};
-ghost use Rattle.codes.specs.Codes.{actOn, SettlesOn, Judgeable, Handed, putChecks};
+ghost use Rattle.codes.specs.Codes.{actOn, OpensAs, SettlesOn, Judgeable, Handed, putChecks};
 use benchmark::Benchmarks;
 use book::Book;
 use book::Done;
@@ -32,12 +32,14 @@ pub enum CodeAct {
     Open,
     Close,
     Drop,
+    Ask,
+    Confirm,
 }
 
-// OPEN (code). 6, 9, 7, 10, 11. Else open; the answer carries the number of cells.
-fn open_at(code: u32, p: Place, loaded: bool, figures: Benchmarks) -> Settled
+// OPEN and ASK (code). 6, 9, 7, 10, 11. Else the draft goes to that state, open or marked; the answer carries the number of cells.
+fn open_as(state: State, code: u32, p: Place, loaded: bool, figures: Benchmarks) -> Settled
     requires { ⌜ (loaded ≡ true → Lawful figures) × HoldsValid p ⌝ }
-    ensures { λ r. ⌜ SettlesOn CodeAct.Open code p loaded figures r ⌝ }
+    ensures { λ r. ⌜ OpensAs state code p loaded figures r ⌝ }
 {
     let shut = book::open_check(p);
     let sheet = book::sheet_check(loaded);
@@ -45,14 +47,14 @@ fn open_at(code: u32, p: Place, loaded: bool, figures: Benchmarks) -> Settled
     let Check::Pass = checked else {
         return book::settled_by(checked, p, p);
     };
-    let opened = book::in_state(p, State::Open);
+    let passed = book::in_state(p, state);
     let ruling = verdict::verdict_of(figures, book::tariff_in(p));
     let outcome = ruling.outcome;
     match outcome {
         Outcome::Opens(cells) => Settled {
-            reply: Reply::Opened(cells),
+            reply: Reply::Cells(cells),
             months: [0; 12],
-            place: opened,
+            place: passed,
         },
         Outcome::Over(region, method, excess) => {
             let months = ruling.months;
@@ -62,6 +64,25 @@ fn open_at(code: u32, p: Place, loaded: bool, figures: Benchmarks) -> Settled
                 place: p,
             }
         }
+    }
+}
+
+// CONFIRM (code). 6, 9, 7, 16. Else open; the answer carries the number of cells.
+fn confirm_at(code: u32, p: Place, loaded: bool, figures: Benchmarks) -> Settled
+    ensures { λ r. ⌜ SettlesOn CodeAct.Confirm code p loaded figures r ⌝ }
+{
+    let shut = book::open_check(p);
+    let mark = book::mark_check(p);
+    let checked = book::held_check(code, p, refusal::first(shut, mark));
+    let Check::Pass = checked else {
+        return book::settled_by(checked, p, p);
+    };
+    let offered = verdict::cell_count(book::tariff_in(p));
+    let opened = book::in_state(p, State::Open);
+    Settled {
+        reply: Reply::Cells(offered),
+        months: [0; 12],
+        place: opened,
     }
 }
 
@@ -82,19 +103,21 @@ fn drop_at(code: u32, p: Place, loaded: bool, figures: Benchmarks) -> Settled
     book::settled_by(checked, p, nothing)
 }
 
-// What one of the three does to a place; so, on every book that has it there, storing what is returned is the call.
+// What one of the five does to a place; so, on every book that has it there, storing what is returned is the call.
 pub fn settle(act: CodeAct, code: u32, p: Place, loaded: bool, figures: Benchmarks) -> Settled
     requires { ⌜ Judgeable act p loaded figures ⌝ }
     ensures { λ r. ⌜ SettlesOn act code p loaded figures r × ((b : Book) (i : ℕ) → HasPlace b code i p loaded figures → Does b (call (actOn act code)) (settledIn b i r)) ⌝ }
 {
     match act {
-        CodeAct::Open => open_at(code, p, loaded, figures),
+        CodeAct::Open => open_as(State::Open, code, p, loaded, figures),
         CodeAct::Close => close_at(code, p, loaded, figures),
         CodeAct::Drop => drop_at(code, p, loaded, figures),
+        CodeAct::Ask => open_as(State::Marked, code, p, loaded, figures),
+        CodeAct::Confirm => confirm_at(code, p, loaded, figures),
     }
 }
 
-// OPEN, CLOSE or DROP: the place of the code is read, settled and stored again.
+// OPEN, CLOSE, DROP, ASK or CONFIRM: the place of the code is read, settled and stored again.
 pub fn act_on(b: Book, code: u32, act: CodeAct) -> Done
     requires { ⌜ Handed act b ⌝ }
     ensures { λ r. ⌜ Does b (call (actOn act code)) r ⌝ }

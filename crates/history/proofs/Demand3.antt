@@ -1,7 +1,8 @@
 -- Demand 3 holds: after any list of calls, of what its checks read from the calls alone (Readings.antt).
 -- Assumes nothing.
 use mathlib.Core.Path.{_≡_, refl, sym, _∙_, ap, ap₂, subst}
-use mathlib.Core.Bool.{Bool, true, cond}
+use mathlib.Core.Bool.{Bool, true, false, cond, _||_}
+use mathlib.Core.Logic.{inl, inr}
 use mathlib.Core.List.{List, [], _∷_, _++_}
 use mathlib.Core.Option.{Option, none, some}
 use Prim.Native.Nat.{ℕ}
@@ -13,7 +14,7 @@ use Rattle.tariff.specs.declared.Tariff.{Tariff}
 use Rattle.tariff.specs.Tariff.{validTariff}
 use Rattle.verdict.specs.Cells.{Cell, Offered}
 use Rattle.book.specs.declared.Book.{Book}
-use Rattle.book.specs.Calls.{Sheet, Act, SET, OPEN, Call, call, isAccepted}
+use Rattle.book.specs.Calls.{Sheet, Act, SET, OPEN, CONFIRM, Call, call, isAccepted}
 use Rattle.book.specs.Checks.{inside, setAnswer, answer}
 use Rattle.book.specs.Book.{tariffIn, fresh, placeOf, holding, held, inForce, bookReadings, step, bookAfter, answersOf, Reachable}
 use Rattle.book.proofs.Places.{held-inside}
@@ -21,20 +22,13 @@ use Rattle.book.proofs.Reached.{fresh-reachable}
 use Rattle.stands.specs.Stands.{MayOpen}
 use Rattle.stands.proofs.Kept.{held-fits, reachable-fits}
 use Rattle.stands.proofs.InForce.{recorded-valid}
-use Rattle.history.specs.History.{tariffAt, openOf, undoable, heldAs, readingsOf, readings, noted, logAfter, acceptedOf, answersAfter}
-use Rattle.history.specs.Claim.{MonthsOf, excessIn, OpenAnswer, Demand3}
-use Rattle.history.proofs.Readings.{Reads, step-reads, all-steps, at-start}
-use Rattle.history.proofs.OpenAnswers.{nowhere-above, open-answer}
+use Rattle.history.specs.History.{tariffAt, openOf, markedOf, undoable, heldAs, readingsOf, readings, noted, logAfter, acceptedOf, answersAfter}
+use Rattle.history.specs.Claim.{MonthsOf, excessIn, WithinCap, OpensOrAsks, OpenAnswer, ConfirmAnswer, Demand3}
+use Rattle.history.proofs.Readings.{held-read, open-unmarked, Reads, step-reads, all-steps, at-start}
+use Rattle.history.proofs.OpenAnswers.{nowhere-above, open-answer, confirm-answer}
 use Rattle.history.proofs.TrialAnswers.{tariffed-at-start, tariffed, trial-answer}
 
--- an open code, by what is held
-open-held : (t : Option Tariff) (o : Bool) (x : Tariff) → heldAs t o ≡ some (holding x true) → (o ≡ true) × (t ≡ some x)
-open-held none o x e = never (cc)
-open-held (some y) o x e =
-    let same : holding y o ≡ holding x true = cc in
-    (ap (λ h. h .isOpen) same, ap (λ h. some (h .tariff)) same)
-
--- an open tariff is within the cap
+-- a tariff that may be open is within the cap
 within-cap : (f : Option Sheet) (x : Tariff) → MayOpen f x
     → (s : Sheet) × (f ≡ some s) × ((c : Cell) → Offered x c → (months : List ℕ) → MonthsOf s months → excessIn s x c months ≤ℤ pos 0)
 within-cap none x m = absurd m
@@ -70,28 +64,57 @@ module _ (calls : List Call) where
   reached : Reachable b
   reached = record { calls = calls; left = refl }
 
-  holds : (k : ℕ) → held (placeOf (b .places) k) ≡ heldAs (tariffAt log k) (openOf log k)
+  holds : (k : ℕ) → held (placeOf (b .places) k) ≡ heldAs (tariffAt log k) (openOf log k) (markedOf log k)
   holds k = ap (λ r. r .held k) same
 
-  -- what a place holds is a valid tariff, and one that may be open where it is
-  fits-at : (k : ℕ) (x : Tariff) (o : Bool) → held (placeOf (b .places) k) ≡ some (holding x o)
-      → (inside k ≡ true) × (validTariff x ≡ true) × (o ≡ true → MayOpen (inForce b) x)
-  fits-at k x o e =
+  -- what a place holds, read from the log
+  holds-read : (k : ℕ) (x : Tariff) (o m : Bool) → held (placeOf (b .places) k) ≡ some (holding x o m)
+      → (tariffAt log k ≡ some x) × (openOf log k ≡ o) × (markedOf log k ≡ m)
+  holds-read k x o m e = held-read (tariffAt log k) (openOf log k) (markedOf log k) (holding x o m) (sym (holds k) ∙ e)
+
+  -- an open code has no mark, and a marked one is not open
+  of-open : (k : ℕ) (x : Tariff) → tariffAt log k ≡ some x → openOf log k ≡ true → markedOf log k ≡ false
+  of-open k x e o =
+      let p = placeOf (b .places) k in
+      open-unmarked (p .state) (tariffIn p) (holding x (openOf log k) (markedOf log k)) (holds k ∙ ap (λ t. heldAs t (openOf log k) (markedOf log k)) e) o
+
+  of-marked : (k : ℕ) (x : Tariff) → tariffAt log k ≡ some x → markedOf log k ≡ true → openOf log k ≡ false
+  of-marked k x e m = go (openOf log k) refl
+    where
+      go : (o : Bool) → openOf log k ≡ o → openOf log k ≡ false
+      go true q = never (let z = of-open k x e q in cc)
+      go false q = q
+
+  -- what a place holds is a valid tariff, and one that may be open where it is open or marked
+  fits-at : (k : ℕ) (x : Tariff) (o m : Bool) → held (placeOf (b .places) k) ≡ some (holding x o m)
+      → (inside k ≡ true) × (validTariff x ≡ true) × ((o || m) ≡ true → MayOpen (inForce b) x)
+  fits-at k x o m e =
       let p = placeOf (b .places) k in
       let w = reachable-fits b reached in
-      let i = held-inside (b .places) k (holding x o) (w .size) e in
-      let f = held-fits (inForce b) (p .state) p (w .places k i) (holding x o) e in
+      let i = held-inside (b .places) k (holding x o m) (w .size) e in
+      let f = held-fits (inForce b) (p .state) p (w .places k i) (holding x o m) e in
       (i, sym (ap validTariff (f .1)) ∙ recorded-valid (tariffIn p) (f .0), λ q. subst (MayOpen (inForce b)) (f .1) (f .2 q))
 
   -- a code with a tariff is one of the 32, and its tariff is valid
   known : (k : ℕ) (x : Tariff) → tariffAt log k ≡ some x → (inside k ≡ true) × (validTariff x ≡ true)
   known k x e =
-      let f = fits-at k x (openOf log k) (holds k ∙ ap (λ t. heldAs t (openOf log k)) e) in
+      let f = fits-at k x (openOf log k) (markedOf log k) (holds k ∙ ap (λ t. heldAs t (openOf log k) (markedOf log k)) e) in
       (f .0, f .1)
 
-  -- the answer that is read for an OPEN
-  read-open : (c : Call) (k : ℕ) → c .act ≡ OPEN k → OpenAnswer log k (answer (readings raw) (c .act))
-  read-open c k e = subst (λ a. OpenAnswer log k (answer (readings raw) a)) (sym e) (open-answer log (undoable raw) k (known k))
+  -- an open or marked tariff is within the cap
+  held-within : (k : ℕ) (x : Tariff) (o m : Bool) → (o || m) ≡ true → held (placeOf (b .places) k) ≡ some (holding x o m) → WithinCap log x
+  held-within k x o m t e =
+      let w = within-cap (inForce b) x (fits-at k x o m e .2 t) in
+      (w .0, sym (ap (λ r. r .sheet) same) ∙ w .1, w .2)
+
+  -- the answers that are read for an OPEN or ASK, and for a CONFIRM
+  read-open : (c : Call) (k : ℕ) → OpensOrAsks (c .act) k → OpenAnswer log k (answer (readings raw) (c .act))
+  read-open c k (inl e) = subst (λ a. OpenAnswer log k (answer (readings raw) a)) (sym e) (open-answer log (undoable raw) k (known k))
+  read-open c k (inr e) = subst (λ a. OpenAnswer log k (answer (readings raw) a)) (sym e) (open-answer log (undoable raw) k (known k))
+
+  read-confirm : (c : Call) (k : ℕ) → c .act ≡ CONFIRM k → ConfirmAnswer log k (answer (readings raw) (c .act))
+  read-confirm c k e =
+      subst (λ a. ConfirmAnswer log k (answer (readings raw) a)) (sym e) (confirm-answer log (undoable raw) k (known k) (of-marked k))
 
   -- what is read after a SET
   read-set : (s : Sheet) → isAccepted (setAnswer s) ≡ true → bookReadings (step b (call (SET s)) .book) ≡ readingsOf (SET s ∷ log) true
@@ -103,16 +126,23 @@ unfolding step
 demand3 calls =
     record {
       answered = all-answers calls;
-      open-places = λ k x. (λ e. open-held _ _ x (sym (holds calls k) ∙ e), λ w. holds calls k ∙ ap₂ heldAs (w .1) (w .0));
-      within = λ k x e.
-          let w = within-cap (inForce (b calls)) x (fits-at calls k x true e .2 refl) in
-          (w .0, sym (ap (λ r. r .sheet) (same calls)) ∙ w .1, w .2);
+      open-places = λ k x. (
+        λ e. let r = holds-read calls k x true false e in (r .1, r .0),
+        λ w. holds calls k ∙ (λ i. heldAs (w .1 i) (w .0 i) (of-open calls k x (w .1) (w .0) i)),
+      );
+      within = λ k x e. held-within calls k x true false refl e;
+      marked-places = λ k x. (
+        λ e. let r = holds-read calls k x false true e in (r .2, r .0),
+        λ w. holds calls k ∙ (λ i. heldAs (w .1 i) (of-marked calls k x (w .1) (w .0) i) (w .0 i)),
+      );
+      marked-within = λ k x e. held-within calls k x false true refl e;
       each-open = λ before after c k e a. (
         answer (readings (raw before)) (c .act),
         ap (λ l. getElem? l (length before)) (all-answers calls ∙ ap (answersAfter []) e) ∙ answer-at before after c [],
         read-open before c k a,
       );
       next-open = λ c k a. subst (OpenAnswer (log calls) k) (ap (λ r. answer r (c .act)) (sym (same calls))) (read-open calls c k a);
+      next-confirm = λ c k a. subst (ConfirmAnswer (log calls) k) (ap (λ r. answer r (c .act)) (sym (same calls))) (read-confirm calls c k a);
       next-trial = λ s.
           trial-answer (log calls) (undoable (raw calls)) (b calls) s (same calls) (read-set calls s)
           (tariffed calls [] tariffed-at-start 0) (λ k x e. known calls k x e .0);

@@ -1,4 +1,5 @@
--- What OPEN answers, by what is read from the accepted calls: of a draft under a sheet in force, the verdict on it.
+-- What OPEN and ASK answer, by what is read from the accepted calls: of a draft under a sheet in force, the verdict on it. And CONFIRM: of a
+-- marked draft, the number of its cells.
 -- Assumes nothing.
 use mathlib.Core.Path.{_≡_, refl, sym, _∙_, ap, subst₂}
 use mathlib.Core.Bool.{Bool, true, false}
@@ -22,10 +23,10 @@ use Rattle.cap.proofs.Worst.{excess-most, exceeds-at-worst, each-worst}
 use Rattle.verdict.specs.Cells.{Cell, Offered, cellNumbers, cellCount, verdictAt, verdict, firstOver}
 use Rattle.verdict.proofs.Meaning.{none-exceeds, first-exceeds}
 use Rattle.verdict.proofs.Count.{cells-counted}
-use Rattle.book.specs.Calls.{Sheet, Act, OPEN, opened, refused, isNone}
+use Rattle.book.specs.Calls.{Sheet, Act, OPEN, CONFIRM, cells, refused, isNone}
 use Rattle.book.specs.Checks.{figuresOf, complies, inside, verdictAnswer, answer}
-use Rattle.history.specs.History.{sheetOf, tariffAt, openOf, readingsOf}
-use Rattle.history.specs.Claim.{numbersWith, excessIn, MonthsOf, ExceedsSomewhere, Shows, DraftWhere, cellsOffered, OpenAnswer}
+use Rattle.history.specs.History.{sheetOf, tariffAt, openOf, markedOf, readingsOf}
+use Rattle.history.specs.Claim.{numbersWith, excessIn, MonthsOf, ExceedsSomewhere, Shows, DraftWhere, cellsOffered, OpenAnswer, ConfirmAnswer}
 
 -- where a tariff does not exceed, no months are above the maximum
 at-most : (e : CellNumbers) (x : Tariff) → (Exceeds e x → ⊥) → (months : List ℕ) → Months (e .months) months → excess e x months ≤ℤ pos 0
@@ -81,10 +82,10 @@ cells-are x v =
     let m = valid-methods x v in
     sym (cells-counted x (omega arith) (omega arith))
 
-same-count : {n m : ℕ} → opened n ≡ opened m → n ≡ m
+same-count : {n m : ℕ} → cells n ≡ cells m → n ≡ m
 same-count e = cc
 
--- the answer to an OPEN of code k, where a code with a tariff is one of the 32 and its tariff is valid
+-- the answer to an OPEN or ASK of code k, where a code with a tariff is one of the 32 and its tariff is valid
 module _ (log : List Act) (u : Bool) (k : ℕ) (known : (x : Tariff) → tariffAt log k ≡ some x → (inside k ≡ true) × (validTariff x ≡ true)) where
   -- no draft under a sheet: a refusal before 11
   earlier : (n : ℕ) → n < 11 → (DraftWhere log k (λ s x. Unit {0}) → ⊥) → OpenAnswer log k (refused n)
@@ -92,7 +93,7 @@ module _ (log : List Act) (u : Bool) (k : ℕ) (known : (x : Tariff) → tariffA
       record {
         over-exactly = (λ q. absurd (other q), λ d. absurd (none-is (d .0, d .1, d .2, d .3, d .4, tt)));
         over-shows = λ q. absurd (other q);
-        opened-exactly = λ m. (λ q. never (cc), λ d. absurd (none-is (d .0, d .1, d .2, d .3, d .4, tt)));
+        accepted-exactly = λ m. (λ q. never (cc), λ d. absurd (none-is (d .0, d .1, d .2, d .3, d .4, tt)));
       }
     where
       other : some n ≡ some 11 → ⊥
@@ -111,16 +112,16 @@ module _ (log : List Act) (u : Bool) (k : ℕ) (known : (x : Tariff) → tariffA
         record {
           over-exactly = (λ q. never (cc), λ d. absurd (nowhere s x e (same ExceedsSomewhere d)));
           over-shows = λ q. never (cc);
-          opened-exactly = λ n. (
+          accepted-exactly = λ n. (
             λ q. (s, x, fs, ft, fo, (nowhere s x e, sym (same-count q) ∙ cells-are x (known x ft .1))),
-            λ d. ap opened (cells-are x (known x ft .1) ∙ sym (same (λ s x. (ExceedsSomewhere s x → ⊥) × (n ≡ cellsOffered x)) d .1)),
+            λ d. ap cells (cells-are x (known x ft .1) ∙ sym (same (λ s x. (ExceedsSomewhere s x → ⊥) × (n ≡ cellsOffered x)) d .1)),
           );
         }
     judged (some c) e =
         record {
           over-exactly = (λ q. (s, x, fs, ft, fo, somewhere s x c e), λ d. refl);
           over-shows = λ q. (c, _, _, refl, (s, x, fs, ft, fo, shown s x c e));
-          opened-exactly = λ n. (
+          accepted-exactly = λ n. (
             λ q. never (cc),
             λ d. absurd (same (λ s x. (ExceedsSomewhere s x → ⊥) × (n ≡ cellsOffered x)) d .0 (somewhere s x c e)),
           );
@@ -137,3 +138,24 @@ module _ (log : List Act) (u : Bool) (k : ℕ) (known : (x : Tariff) → tariffA
       go true (some x) true f ei et eo ef = rw (ei, et, eo) (earlier 7 (omega arith) (λ d. let e = d .4 in never (cc)))
       go true (some x) false none ei et eo ef = rw (ei, et, eo, ef) (earlier 10 (omega arith) (λ d. let e = d .2 in never (cc)))
       go true (some x) false (some s) ei et eo ef = rw (ei, et, eo, ef) (judged s x ef et eo (firstOver (figuresOf s) x) refl)
+
+  -- the answer to a CONFIRM, where a marked code is a draft
+  pub confirm-answer : ((x : Tariff) → tariffAt log k ≡ some x → markedOf log k ≡ true → openOf log k ≡ false)
+      → ConfirmAnswer log k (answer (readingsOf log u) (CONFIRM k))
+  confirm-answer shut n = go (inside k) (tariffAt log k) (openOf log k) (markedOf log k) refl refl refl refl
+    where
+      Marks : Type 0
+      Marks = (x : Tariff) × (tariffAt log k ≡ some x) × (markedOf log k ≡ true) × (n ≡ cellsOffered x)
+
+      go : (i : Bool) (t : Option Tariff) (o m : Bool) → inside k ≡ i → tariffAt log k ≡ t → openOf log k ≡ o → markedOf log k ≡ m
+          → (answer (readingsOf log u) (CONFIRM k) ≡ cells n) ↔ Marks
+      go false t o m ei et eo em = rw ei (λ q. never (cc), λ d. let e = known (d .0) (d .1) .0 in never (cc))
+      go true none o m ei et eo em = rw (ei, et) (λ q. never (cc), λ d. let e = d .1 in never (cc))
+      go true (some x) true m ei et eo em = rw (ei, et, eo) (λ q. never (cc), λ d. let e = shut (d .0) (et ∙ d .1) (d .2) in never (cc))
+      go true (some x) false false ei et eo em = rw (ei, et, eo, em) (λ q. never (cc), λ d. let e = d .2 in never (cc))
+      go true (some x) false true ei et eo em =
+          let count = cells-are x (known x et .1) in
+          rw (ei, et, eo, em) (
+            λ q. (x, refl, refl, sym (same-count q) ∙ count),
+            λ d. let same : x ≡ d .0 = (let e = d .1 in cc) in ap cells (count ∙ ap cellsOffered same ∙ sym (d .3)),
+          )

@@ -13,18 +13,18 @@ use Rattle.benchmark.specs.declared.Benchmarks.{Benchmarks}
 use Rattle.tariff.specs.declared.Tariff.{Tariff}
 use Rattle.tariff.specs.Tariff.{tariffOf}
 use Rattle.book.specs.declared.State.{State}
-use Rattle.book.specs.declared.State.the-variants.{Empty, Draft, Open}
+use Rattle.book.specs.declared.State.the-variants.{Empty, Draft, Marked, Open}
 use Rattle.book.specs.declared.Place.{Place}
 use Rattle.book.specs.declared.Book.{Book}
-use Rattle.book.specs.Calls.{Sheet, Act, SET, PUT, OPEN, CLOSE, DROP, UNDO, Call, accepted, isAccepted}
+use Rattle.book.specs.Calls.{Sheet, Act, SET, PUT, OPEN, CLOSE, DROP, UNDO, ASK, CONFIRM, Call, accepted, isAccepted}
 use Rattle.book.specs.Checks.{Holding, Readings, figuresOf, complies, inside, answer}
 use Rattle.book.specs.Book.{empty, placeWith, tariffIn, withState, fresh, placeOf, holding, heldIn, held, inForce, bookReadings, withPlace, openIf, stateUnder, restored, changed, step, bookAfter, answersOf, Reachable}
 use Rattle.book.proofs.Places.{code-range, at-set, at-map, fresh-place}
-use Rattle.book.proofs.Accepted.{need-accepted, put-accepted, close-accepted, drop-accepted, open-accepted}
+use Rattle.book.proofs.Accepted.{need-accepted, put-accepted, close-accepted, drop-accepted, confirm-accepted, open-accepted}
 use Rattle.book.proofs.Reached.{step-reachable}
 use Rattle.stands.proofs.Undone.{undone}
-use Rattle.stands.proofs.Kept.{reachable-fits}
-use Rattle.history.specs.History.{sheetOf, tariffAt, openOf, staysOpen, effective, undoable, heldAs, readingsOf, readings, noted, logAfter, answersAfter}
+use Rattle.stands.proofs.Kept.{held-fits, reachable-fits}
+use Rattle.history.specs.History.{sheetOf, tariffAt, openOf, markedOf, staysOpen, effective, undoable, heldAs, readingsOf, readings, noted, logAfter, answersAfter}
 
 same-readings : (r q : Readings) → r .sheet ≡ q .sheet → ((k : ℕ) → r .held k ≡ q .held k) → r .mayUndo ≡ q .mayUndo → r ≡ q
 same-readings r q s h u = λ i. record { sheet = s i; held = λ k. h k i; mayUndo = u i }
@@ -37,37 +37,45 @@ rewritten g k j = go (eqb k j) refl
     go true e = ap g (eqb-true k j e)
     go false e = refl
 
--- what is held where a tariff and whether it is open are written
-cond-held : (c : Bool) (t u : Option Tariff) (o p : Bool) → cond c (heldAs t o) (heldAs u p) ≡ heldAs (cond c t u) (cond c o p)
-cond-held true t u o p = refl
-cond-held false t u o p = refl
+-- a value that code k has already, written at code k
+written : {A : Type 0} (g : ℕ → A) (k : ℕ) (a : A) → a ≡ g k → (j : ℕ) → cond (eqb k j) a (g j) ≡ g j
+written g k a e j = ap (λ b. cond (eqb k j) b (g j)) e ∙ rewritten g k j
 
--- a tariff that is held and is opened or closed
-reheld : (s : State) (x : Tariff) (h : Holding) (t : Option Tariff) (o p : Bool) → heldIn s x ≡ some h → heldIn s x ≡ heldAs t o
-    → some (holding x p) ≡ heldAs t p
-reheld Empty x h t o p f e = never (cc)
-reheld Draft x h none o p f e = never (cc)
-reheld Draft x h (some y) o p f e = let same : holding x false ≡ holding y o = cc in ap (λ g. some (holding (g .tariff) p)) same
-reheld Open x h none o p f e = never (cc)
-reheld Open x h (some y) o p f e = let same : holding x true ≡ holding y o = cc in ap (λ g. some (holding (g .tariff) p)) same
+-- what is held where a tariff and whether it is open or marked are written
+cond-held : (c : Bool) (t u : Option Tariff) (o p m n : Bool) → cond c (heldAs t o m) (heldAs u p n) ≡ heldAs (cond c t u) (cond c o p) (cond c m n)
+cond-held true t u o p m n = refl
+cond-held false t u o p m n = refl
+
+-- what is held, read from the log
+pub held-read : (t : Option Tariff) (o m : Bool) (h : Holding) → heldAs t o m ≡ some h → (t ≡ some (h .tariff)) × (o ≡ h .isOpen) × (m ≡ h .isMarked)
+held-read none o m h e = never (cc)
+held-read (some x) o m h e = let same : holding x o m ≡ h = cc in (ap (λ g. some (g .tariff)) same, ap (λ g. g .isOpen) same, ap (λ g. g .isMarked) same)
+
+-- "an open tariff has no mark"
+pub open-unmarked : (s : State) (x : Tariff) (h : Holding) → heldIn s x ≡ some h → h .isOpen ≡ true → h .isMarked ≡ false
+open-unmarked Empty x h e o = never (cc)
+open-unmarked Draft x h e o = never (let same : holding x false false ≡ h = cc in let z = ap (λ g. g .isOpen) same in cc)
+open-unmarked Marked x h e o = never (let same : holding x false true ≡ h = cc in let z = ap (λ g. g .isOpen) same in cc)
+open-unmarked Open x h e o = let same : holding x true false ≡ h = cc in sym (ap (λ g. g .isMarked) same)
 
 -- a sheet comes in
 abbrev judgedBy : Benchmarks → Option Holding → Option Holding
 judgedBy f none = none
-judgedBy f (some h) = some (holding (h .tariff) (h .isOpen && complies f (h .tariff)))
+judgedBy f (some h) = some (holding (h .tariff) (h .isOpen && complies f (h .tariff)) false)
 
 place-judged : (f : Benchmarks) (s : State) (x : Tariff) → heldIn (stateUnder f s x) x ≡ judgedBy f (heldIn s x)
 place-judged f Empty x = refl
 place-judged f Draft x = refl
+place-judged f Marked x = refl
 place-judged f Open x = go (complies f x)
   where
-    go : (t : Bool) → heldIn (openIf t) x ≡ some (holding x t)
+    go : (t : Bool) → heldIn (openIf t) x ≡ some (holding x t false)
     go true = refl
     go false = refl
 
-log-judged : (s : Sheet) (t : Option Tariff) (o : Bool) → judgedBy (figuresOf s) (heldAs t o) ≡ heldAs t (o && staysOpen s t)
-log-judged s none o = refl
-log-judged s (some x) o = refl
+log-judged : (s : Sheet) (t : Option Tariff) (o m : Bool) → judgedBy (figuresOf s) (heldAs t o m) ≡ heldAs t (o && staysOpen s t) false
+log-judged s none o m = refl
+log-judged s (some x) o m = refl
 
 -- the checks read of a book what they read from the log; and where there is a SET to take back, of the book that UNDO leaves what they read
 -- from the log without it
@@ -78,21 +86,39 @@ Reads b log =
 
 -- one call, on such a book
 module _ (log : List Act) (b : Book) (from : Reachable b) (same : Reads b log) where
-  held-is : (k : ℕ) → held (placeOf (b .places) k) ≡ heldAs (tariffAt (effective log) k) (openOf (effective log) k)
+  abbrev l : List Act
+  l = effective log
+
+  held-is : (k : ℕ) → held (placeOf (b .places) k) ≡ heldAs (tariffAt l k) (openOf l k) (markedOf l k)
   held-is k = ap (λ r. r .held k) (same .0)
 
   -- one place set, which leaves nothing to take back
-  place-set : (k : ℕ) (p : Place) (t : Option Tariff) (o : Bool) (tariffs : ℕ → Option Tariff) → inside k ≡ true → held p ≡ heldAs t o
-      → ((j : ℕ) → cond (eqb k j) t (tariffAt (effective log) j) ≡ tariffs j)
-      → bookReadings (withPlace b k p) ≡ record { sheet = sheetOf (effective log); held = λ j. heldAs (tariffs j) (cond (eqb k j) o (openOf (effective log) j)); mayUndo = false }
-  place-set k p t o tariffs i h e =
+  place-set : (k : ℕ) (p : Place) (t : Option Tariff) (o m : Bool) (tariffs : ℕ → Option Tariff) (opens marks : ℕ → Bool)
+      → inside k ≡ true → held p ≡ heldAs t o m
+      → ((j : ℕ) → cond (eqb k j) t (tariffAt l j) ≡ tariffs j)
+      → ((j : ℕ) → cond (eqb k j) o (openOf l j) ≡ opens j)
+      → ((j : ℕ) → cond (eqb k j) m (markedOf l j) ≡ marks j)
+      → bookReadings (withPlace b k p) ≡ record { sheet = sheetOf l; held = λ j. heldAs (tariffs j) (opens j) (marks j); mayUndo = false }
+  place-set k p t o m tariffs opens marks i h e f g =
       same-readings _ _ (ap (λ r. r .sheet) (same .0))
       (λ j.
       at-set held (b .places) p (reachable-fits b from .size) k j (code-range k i)
       ∙ ap₂ (cond (eqb k j)) h (held-is j)
-      ∙ cond-held (eqb k j) t (tariffAt (effective log) j) o (openOf (effective log) j)
-      ∙ ap (λ u. heldAs u (cond (eqb k j) o (openOf (effective log) j))) (e j))
+      ∙ cond-held (eqb k j) t (tariffAt l j) o (openOf l j) m (markedOf l j)
+      ∙ (λ i. heldAs (e j i) (f j i) (g j i)))
       refl
+
+  -- what the log has of a code whose place holds something, and of that place in another state
+  held-there : (k : ℕ) (h : Holding) → held (placeOf (b .places) k) ≡ some h
+      → (tariffAt l k ≡ some (h .tariff)) × (openOf l k ≡ h .isOpen) × (markedOf l k ≡ h .isMarked)
+  held-there k h e = held-read (tariffAt l k) (openOf l k) (markedOf l k) h (sym (held-is k) ∙ e)
+
+  reheld : (k : ℕ) (h : Holding) (o m : Bool) → inside k ≡ true → held (placeOf (b .places) k) ≡ some h
+      → some (holding (tariffIn (placeOf (b .places) k)) o m) ≡ heldAs (tariffAt l k) o m
+  reheld k h o m i e =
+      let p = placeOf (b .places) k in
+      ap (λ x. some (holding x o m)) (held-fits (inForce b) (p .state) p (reachable-fits b from .places k i) h e .1)
+      ∙ ap (λ t. heldAs t o m) (sym (held-there k h e .0))
 
   -- an accepted call
   changed-reads : (a : Act) → isAccepted (answer (bookReadings b) a) ≡ true → Reads (changed b a) (a ∷ log)
@@ -103,38 +129,53 @@ module _ (log : List Act) (b : Book) (from : Reachable b) (same : Reads b log) w
         ap held (at-map (figuresOf s) (b .places) k)
         ∙ place-judged (figuresOf s) (p .state) (tariffIn p)
         ∙ ap (judgedBy (figuresOf s)) (held-is k)
-        ∙ log-judged s (tariffAt (effective log) k) (openOf (effective log) k))
+        ∙ log-judged s (tariffAt l k) (openOf l k) (markedOf l k))
         refl,
     λ q. ap bookReadings (undone b (reachable-fits b from) s) ∙ same-readings _ _ (ap (λ r. r .sheet) (same .0)) held-is refl,
   )
   changed-reads (PUT k x) e = (
-    place-set k (placeWith Draft (tariffOf x)) (some (tariffOf x)) false _ (put-accepted k (held (placeOf (b .places) k)) x e .0) refl (λ j. refl),
+    place-set k (placeWith Draft (tariffOf x)) (some (tariffOf x)) false false _ _ _ (put-accepted k (held (placeOf (b .places) k)) x e .0) refl
+        (λ j. refl) (λ j. refl) (λ j. refl),
     λ q. never (cc),
   )
   changed-reads (OPEN k) e =
       let p = placeOf (b .places) k in
-      let l = effective log in
       let f = open-accepted k (held p) (inForce b) e in (
-        place-set k (withState Open p) (tariffAt l k) true _ (f .code)
-            (reheld (p .state) (tariffIn p) (f .h) (tariffAt l k) (openOf l k) true (f .its) (held-is k)) (rewritten (tariffAt l) k),
+        place-set k (withState Open p) (tariffAt l k) true false _ _ _ (f .code) (reheld k (f .h) true false (f .code) (f .its))
+            (rewritten (tariffAt l) k) (λ j. refl) (λ j. refl),
         λ q. never (cc),
       )
   changed-reads (CLOSE k) e =
       let p = placeOf (b .places) k in
-      let l = effective log in
-      let f = close-accepted k (held p) e in (
-        place-set k (withState Draft p) (tariffAt l k) false _ (f .0)
-            (reheld (p .state) (tariffIn p) (f .1) (tariffAt l k) (openOf l k) false (f .2) (held-is k)) (rewritten (tariffAt l) k),
+      let f = close-accepted k (held p) e in
+      let unmarked = held-there k (f .1) (f .2) .2 ∙ open-unmarked (p .state) (tariffIn p) (f .1) (f .2) (f .3) in (
+        place-set k (withState Draft p) (tariffAt l k) false false _ _ _ (f .0) (reheld k (f .1) false false (f .0) (f .2))
+            (rewritten (tariffAt l) k) (λ j. refl) (written (markedOf l) k false (sym unmarked)),
         λ q. never (cc),
       )
   changed-reads (DROP k) e = (
-    place-set k empty none false _ (drop-accepted k (held (placeOf (b .places) k)) e) refl (λ j. refl),
+    place-set k empty none false false _ _ _ (drop-accepted k (held (placeOf (b .places) k)) e) refl (λ j. refl) (λ j. refl) (λ j. refl),
     λ q. never (cc),
   )
   changed-reads UNDO e = (
     same .1 (sym (ap (λ r. r .mayUndo) (same .0)) ∙ need-accepted (b .kept .any) 15 accepted e .0),
     λ q. never (cc),
   )
+  changed-reads (ASK k) e =
+      let p = placeOf (b .places) k in
+      let f = open-accepted k (held p) (inForce b) e in
+      let shut = held-there k (f .h) (f .its) .1 ∙ f .shut in (
+        place-set k (withState Marked p) (tariffAt l k) false true _ _ _ (f .code) (reheld k (f .h) false true (f .code) (f .its))
+            (rewritten (tariffAt l) k) (written (openOf l) k false (sym shut)) (λ j. refl),
+        λ q. never (cc),
+      )
+  changed-reads (CONFIRM k) e =
+      let p = placeOf (b .places) k in
+      let f = confirm-accepted k (held p) e in (
+        place-set k (withState Open p) (tariffAt l k) true false _ _ _ (f .0) (reheld k (f .1) true false (f .0) (f .2))
+            (rewritten (tariffAt l) k) (λ j. refl) (λ j. refl),
+        λ q. never (cc),
+      )
 
   -- a call, accepted or not
   pub step-reads : (c : Call) → Reads (step b c .book) (noted log c)

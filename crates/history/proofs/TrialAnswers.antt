@@ -18,24 +18,21 @@ use Rattle.laws.proofs.Never.{never}
 use Rattle.laws.proofs.Sets.{bit-of-set, bit-past-set}
 use Rattle.tariff.specs.declared.Tariff.{Tariff}
 use Rattle.book.specs.declared.Book.{Book}
-use Rattle.book.specs.Calls.{Sheet, Act, SET, PUT, OPEN, CLOSE, DROP, UNDO, Call, call, refusalNumber, isAccepted}
+use Rattle.book.specs.Calls.{Sheet, Act, SET, PUT, OPEN, CLOSE, DROP, UNDO, ASK, CONFIRM, Call, call, refusalNumber, isAccepted}
 use Rattle.book.specs.Checks.{Holding, isOpen, inside, setAnswer, answer}
 use Rattle.book.specs.Book.{bookReadings, step}
 use Rattle.book.proofs.Places.{code-range}
-use Rattle.book.proofs.Accepted.{open-accepted}
+use Rattle.book.proofs.Accepted.{confirm-accepted, open-accepted}
 use Rattle.stands.proofs.Kept.{none-of}
 use Rattle.queries.specs.Queries.{refused, falling}
 use Rattle.trial.specs.Trial.{isDraft, falls, codesWhere, toldUnless, trialOf}
-use Rattle.history.specs.History.{sheetOf, tariffAt, openOf, staysOpen, effective, undoable, heldAs, readingsOf, readings, noted, logAfter}
+use Rattle.history.specs.History.{sheetOf, tariffAt, openOf, markedOf, staysOpen, effective, undoable, heldAs, readingsOf, readings, noted, logAfter}
+use Rattle.history.proofs.Readings.{held-read}
 use Rattle.history.specs.Claim.{WouldFall, TrialAnswer}
 
 -- an open code has a tariff
 abbrev pub Tariffed : List Act → Type 0
 Tariffed log = (k : ℕ) → openOf log k ≡ true → (x : Tariff) × (tariffAt log k ≡ some x)
-
-held-tariff : (t : Option Tariff) (o : Bool) (h : Holding) → heldAs t o ≡ some h → (x : Tariff) × (t ≡ some x)
-held-tariff none o h e = never (cc)
-held-tariff (some x) o h e = (x, refl)
 
 module _ (log : List Act) (u : Bool) (has : Tariffed log) where
   -- after a call that leaves code k not open where c holds
@@ -43,16 +40,20 @@ module _ (log : List Act) (u : Bool) (has : Tariffed log) where
   not-open k t true e = never (cc)
   not-open k t false e = has k e
 
+  -- and after one that leaves code j open, where its place holds something
+  opened : (j k : ℕ) (h : Holding) → heldAs (tariffAt log j) (openOf log j) (markedOf log j) ≡ some h
+      → (c : Bool) → eqb j k ≡ c → cond c true (openOf log k) ≡ true → (x : Tariff) × (tariffAt log k ≡ some x)
+  opened j k h its true q o =
+      subst (λ i. (x : Tariff) × (tariffAt log i ≡ some x)) (eqb-true j k q)
+      (h .tariff, held-read (tariffAt log j) (openOf log j) (markedOf log j) h its .0)
+  opened j k h its false q o = has k o
+
   tariffed-act : (a : Act) → isAccepted (answer (readingsOf log u) a) ≡ true → Tariffed (a ∷ log)
   tariffed-act (SET s) e k o = has k (and-left (openOf log k) (staysOpen s (tariffAt log k)) o)
   tariffed-act (PUT j x) e k o = not-open k _ (eqb j k) o
-  tariffed-act (OPEN j) e k o = go (eqb j k) refl o
-    where
-      go : (c : Bool) → eqb j k ≡ c → cond c true (openOf log k) ≡ true → (x : Tariff) × (tariffAt log k ≡ some x)
-      go true q o =
-          let f = open-accepted j (heldAs (tariffAt log j) (openOf log j)) (sheetOf log) e in
-          subst (λ i. (x : Tariff) × (tariffAt log i ≡ some x)) (eqb-true j k q) (held-tariff (tariffAt log j) (openOf log j) (f .h) (f .its))
-      go false q o = has k o
+  tariffed-act (OPEN j) e k o =
+      let f = open-accepted j (heldAs (tariffAt log j) (openOf log j) (markedOf log j)) (sheetOf log) e in
+      opened j k (f .h) (f .its) (eqb j k) refl o
   tariffed-act (CLOSE j) e k o = closed (eqb j k) o
     where
       closed : (c : Bool) → cond c false (openOf log k) ≡ true → (x : Tariff) × (tariffAt log k ≡ some x)
@@ -60,6 +61,10 @@ module _ (log : List Act) (u : Bool) (has : Tariffed log) where
       closed false o = has k o
   tariffed-act (DROP j) e k o = not-open k none (eqb j k) o
   tariffed-act UNDO e k o = has k o
+  tariffed-act (ASK j) e k o = has k o
+  tariffed-act (CONFIRM j) e k o =
+      let f = confirm-accepted j (heldAs (tariffAt log j) (openOf log j) (markedOf log j)) e in
+      opened j k (f .1) (f .2) (eqb j k) refl o
 
 -- so it is of a log and of what is left of it without its newest calls, whichever of them UNDO may take back
 abbrev pub AlwaysTariffed : List Act → Type 0
@@ -84,6 +89,8 @@ module _ (log : List Act) (has : AlwaysTariffed (effective log)) where
   noted-act (CLOSE j) e = one-more (CLOSE j) (effective log) (tariffed-act (effective log) (undoable log) (has 0) (CLOSE j) e) has
   noted-act (DROP j) e = one-more (DROP j) (effective log) (tariffed-act (effective log) (undoable log) (has 0) (DROP j) e) has
   noted-act UNDO e = some-less 1 (effective log) has
+  noted-act (ASK j) e = one-more (ASK j) (effective log) (tariffed-act (effective log) (undoable log) (has 0) (ASK j) e) has
+  noted-act (CONFIRM j) e = one-more (CONFIRM j) (effective log) (tariffed-act (effective log) (undoable log) (has 0) (CONFIRM j) e) has
 
   tariffed-noted : (c : Call) → AlwaysTariffed (effective (noted log c))
   tariffed-noted c = go (isAccepted (answer (readings log) (c .act))) refl
@@ -103,12 +110,12 @@ told-refusal none codes n = (λ e. never (cc), λ e. never (cc))
 told-refusal (some m) codes n = (λ e. cc, λ e. cc)
 
 -- open before and a draft after, of a code whose tariff stays
-fall-exactly : (t : Option Tariff) (o q : Bool) → (o ≡ true → (x : Tariff) × (t ≡ some x))
-    → ((isOpen (heldAs t o) && isDraft (heldAs t q)) ≡ true) ↔ ((o ≡ true) × (q ≡ false))
-fall-exactly none o q h = (λ e. never (cc), λ e. let f = h (e .0) .1 in never (cc))
-fall-exactly (some x) false q h = (λ e. never (cc), λ e. never (let z = e .0 in cc))
-fall-exactly (some x) true true h = (λ e. never (cc), λ e. never (let z = e .1 in cc))
-fall-exactly (some x) true false h = (λ e. (refl, refl), λ e. refl)
+fall-exactly : (t : Option Tariff) (o q m n : Bool) → (o ≡ true → (x : Tariff) × (t ≡ some x))
+    → ((isOpen (heldAs t o m) && isDraft (heldAs t q n)) ≡ true) ↔ ((o ≡ true) × (q ≡ false))
+fall-exactly none o q m n h = (λ e. never (cc), λ e. let f = h (e .0) .1 in never (cc))
+fall-exactly (some x) false q m n h = (λ e. never (cc), λ e. never (let z = e .0 in cc))
+fall-exactly (some x) true true m n h = (λ e. never (cc), λ e. never (let z = e .1 in cc))
+fall-exactly (some x) true false m n h = (λ e. (refl, refl), λ e. refl)
 
 -- a TRIAL on a book of which the checks read what they read from the log, before a SET and after it
 module _ (log : List Act) (u : Bool) (b : Book) (s : Sheet) (same : bookReadings b ≡ readingsOf log u)
@@ -118,7 +125,7 @@ module _ (log : List Act) (u : Bool) (b : Book) (s : Sheet) (same : bookReadings
   next = SET s ∷ log
 
   falls-read : (k : ℕ) → falls b (step b (call (SET s)) .book) k
-      ≡ (isOpen (heldAs (tariffAt log k) (openOf log k)) && isDraft (heldAs (tariffAt log k) (openOf next k)))
+      ≡ (isOpen (heldAs (tariffAt log k) (openOf log k) (markedOf log k)) && isDraft (heldAs (tariffAt log k) (openOf next k) false))
   falls-read k = ap₂ (λ r q. isOpen (r .held k) && isDraft (q .held k)) same after
 
   codes-are : (i : ℕ) → (bit (codesWhere (falls b (step b (call (SET s)) .book))) i ≡ true) ↔ WouldFall log s i
@@ -127,8 +134,8 @@ module _ (log : List Act) (u : Bool) (b : Book) (s : Sheet) (same : bookReadings
       test : ℕ → Bool
       test j = falls b (step b (call (SET s)) .book) (suc j)
 
-      f : ((isOpen (heldAs (tariffAt log (suc i)) (openOf log (suc i))) && isDraft (heldAs (tariffAt log (suc i)) (openOf next (suc i)))) ≡ true) ↔ WouldFall log s i
-      f = fall-exactly (tariffAt log (suc i)) (openOf log (suc i)) (openOf next (suc i)) (has (suc i))
+      f : ((isOpen (heldAs (tariffAt log (suc i)) (openOf log (suc i)) (markedOf log (suc i))) && isDraft (heldAs (tariffAt log (suc i)) (openOf next (suc i)) false)) ≡ true) ↔ WouldFall log s i
+      f = fall-exactly (tariffAt log (suc i)) (openOf log (suc i)) (openOf next (suc i)) (markedOf log (suc i)) false (has (suc i))
 
       go : Dec (i < 32) → (bit (setOf 32 test) i ≡ true) ↔ WouldFall log s i
       go (yes h) = (λ e. f .0 (sym (bit-of-set 32 test i h ∙ falls-read (suc i)) ∙ e), λ w. bit-of-set 32 test i h ∙ falls-read (suc i) ∙ f .1 w)

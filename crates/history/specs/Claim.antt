@@ -1,7 +1,7 @@
 -- Demand 3, one statement.
 -- Assumes nothing.
 use mathlib.Core.Path.{_≡_}
-use mathlib.Core.Logic.{_↔_}
+use mathlib.Core.Logic.{_↔_, _⊎_}
 use mathlib.Core.Bool.{true, false}
 use mathlib.Core.List.{List, [], _∷_, _++_}
 use mathlib.Core.Option.{some}
@@ -18,17 +18,20 @@ use Rattle.cap.specs.Cap.{excess, Months, share}
 use Rattle.verdict.specs.Cells.{Cell, offered, Offered, tariffNumbers, ExceedsIn, Before, cellAt}
 use Rattle.book.specs.declared.Book.{Book}
 use Rattle.book.specs.declared.Done.{Done}
-use Rattle.book.specs.Calls.{Sheet, Act, SET, OPEN, Call, Answer, opened, over, refusalNumber, isAccepted}
+use Rattle.book.specs.Calls.{Sheet, Act, SET, OPEN, ASK, CONFIRM, Call, Answer, cells, over, refusalNumber, isAccepted}
 use Rattle.book.specs.Checks.{figuresOf, setAnswer}
 use Rattle.book.specs.Book.{holding, held, placeOf, fresh, step}
 use Rattle.book.specs.Promises.{answerOf, Does}
 use Rattle.queries.specs.Queries.{Telling, refused, falling}
 use Rattle.trial.specs.Trial.{trialOf}
-use Rattle.history.specs.History.{sheetOf, tariffAt, openOf, acceptedOf, answersAfter}
+use Rattle.history.specs.History.{sheetOf, tariffAt, openOf, markedOf, acceptedOf, answersAfter}
 
--- the place of code k holds tariff x, open
+-- the place of code k holds tariff x, open; or as a marked draft
 abbrev pub OpenIn : Book → ℕ → Tariff → Type 0
-OpenIn b k x = held (placeOf (b .places) k) ≡ some (holding x true)
+OpenIn b k x = held (placeOf (b .places) k) ≡ some (holding x true false)
+
+abbrev pub MarkedIn : Book → ℕ → Tariff → Type 0
+MarkedIn b k x = held (placeOf (b .places) k) ≡ some (holding x false true)
 
 -- the numbers of a tariff's cell, with a sheet's figures, and the excess of months there
 abbrev pub numbersWith : Sheet → Tariff → Cell → CellNumbers
@@ -44,6 +47,12 @@ MonthsOf s months = Months (figuresOf s .months) months
 -- the tariff exceeds in some offered cell
 abbrev pub ExceedsSomewhere : Sheet → Tariff → Type 0
 ExceedsSomewhere s x = (c : Cell) × Offered x c × ExceedsIn (figuresOf s) x c
+
+-- the tariff is at or below the maximum of the sheet in force, in every offered cell and for every list of t months
+abbrev pub WithinCap : List Act → Tariff → Type 0
+WithinCap log x =
+    (s : Sheet) × (sheetOf log ≡ some s)
+    × ((c : Cell) → Offered x c → (months : List ℕ) → MonthsOf s months → excessIn s x c months ≤ℤ pos 0)
 
 -- what answer 11 shows
 pub record Shows (s : Sheet) (x : Tariff) (c : Cell) (months : List ℕ) (e : ℤ) : Type 0 where
@@ -67,15 +76,24 @@ DraftWhere log k P =
 abbrev pub cellsOffered : Tariff → ℕ
 cellsOffered x = count 28 (λ i. offered x (cellAt i))
 
--- what holds of an OPEN of code k, answered a, where log has the calls that were accepted before it
+-- ASK "does the checks of OPEN, with its refusals"
+abbrev pub OpensOrAsks : Act → ℕ → Type 0
+OpensOrAsks a k = (a ≡ OPEN k) ⊎ (a ≡ ASK k)
+
+-- what holds of an OPEN or an ASK of code k, answered a, where log has the calls that were accepted before it
 pub record OpenAnswer (log : List Act) (k : ℕ) (a : Answer) : Type 0 where
   -- it says 11 exactly when the code is a draft and its tariff exceeds, with the sheet in force, in some offered cell
   pub over-exactly : (refusalNumber a ≡ some 11) ↔ DraftWhere log k ExceedsSomewhere
   -- 11 carries a cell, months and an excess, and this is what they are
   pub over-shows : refusalNumber a ≡ some 11
       → (c : Cell) × (months : List ℕ) × (e : ℤ) × (a ≡ over c months e) × DraftWhere log k (λ s x. Shows s x c months e)
-  -- it opens exactly when the code is a draft and its tariff exceeds in no offered cell, and says how many they are
-  pub opened-exactly : (n : ℕ) → (a ≡ opened n) ↔ DraftWhere log k (λ s x. (ExceedsSomewhere s x → ⊥) × (n ≡ cellsOffered x))
+  -- it is accepted exactly when the code is a draft and its tariff exceeds in no offered cell, and says how many they are
+  pub accepted-exactly : (n : ℕ) → (a ≡ cells n) ↔ DraftWhere log k (λ s x. (ExceedsSomewhere s x → ⊥) × (n ≡ cellsOffered x))
+
+-- what holds of a CONFIRM: it is accepted exactly when the code is marked, and says how many its tariff's offered cells are
+abbrev pub ConfirmAnswer : List Act → ℕ → Answer → Type 0
+ConfirmAnswer log k a =
+    (n : ℕ) → (a ≡ cells n) ↔ ((x : Tariff) × (tariffAt log k ≡ some x) × (markedOf log k ≡ true) × (n ≡ cellsOffered x))
 
 -- code i + 1 is open, and would not be after a SET of the sheet accepted next
 abbrev pub WouldFall : List Act → Sheet → ℕ → Type 0
@@ -96,20 +114,23 @@ pub record Demand3 (calls : List Call) (answers : List Answer) (b : Book) : Type
   -- the open places are exactly the open codes, each with its tariff
   pub open-places : (k : ℕ) (x : Tariff)
       → OpenIn b k x ↔ ((openOf (acceptedOf calls) k ≡ true) × (tariffAt (acceptedOf calls) k ≡ some x))
-  -- each open tariff is at or below the maximum of the sheet in force, in every offered cell and for every list of t months
-  pub within : (k : ℕ) (x : Tariff) → OpenIn b k x
-      → (s : Sheet) × (sheetOf (acceptedOf calls) ≡ some s)
-      × ((c : Cell) → Offered x c → (months : List ℕ) → MonthsOf s months → excessIn s x c months ≤ℤ pos 0)
-  -- each OPEN of the list has had, in its place, an answer that says 11 or opens exactly when it should
-  pub each-open : (before after : List Call) (c : Call) (k : ℕ) → calls ≡ before ++ (c ∷ after) → c .act ≡ OPEN k
+  -- each open tariff is within the cap
+  pub within : (k : ℕ) (x : Tariff) → OpenIn b k x → WithinCap (acceptedOf calls) x
+  -- the marked places are exactly the marked codes, and what may be confirmed is within the cap
+  pub marked-places : (k : ℕ) (x : Tariff)
+      → MarkedIn b k x ↔ ((markedOf (acceptedOf calls) k ≡ true) × (tariffAt (acceptedOf calls) k ≡ some x))
+  pub marked-within : (k : ℕ) (x : Tariff) → MarkedIn b k x → WithinCap (acceptedOf calls) x
+  -- each OPEN and each ASK of the list has had, in its place, an answer that says 11 or accepts exactly when it should
+  pub each-open : (before after : List Call) (c : Call) (k : ℕ) → calls ≡ before ++ (c ∷ after) → OpensOrAsks (c .act) k
       → (a : Answer) × (getElem? answers (length before) ≡ some a) × OpenAnswer (acceptedOf before) k a
-  -- and so would an OPEN made next
-  pub next-open : (c : Call) (k : ℕ) → c .act ≡ OPEN k → OpenAnswer (acceptedOf calls) k (step b c .answer)
+  -- and so would one made next, and a CONFIRM
+  pub next-open : (c : Call) (k : ℕ) → OpensOrAsks (c .act) k → OpenAnswer (acceptedOf calls) k (step b c .answer)
+  pub next-confirm : (c : Call) (k : ℕ) → c .act ≡ CONFIRM k → ConfirmAnswer (acceptedOf calls) k (step b c .answer)
   -- a TRIAL made next tells what a SET made in its place would do
   pub next-trial : (s : Sheet) → TrialAnswer (acceptedOf calls) s (trialOf b s)
 
 -- A list of calls made by the code: each on the book that the one before it returned, with any answers and books that the calls'
--- own promises allow. `Does` is what SET, PUT, OPEN, CLOSE, DROP and UNDO each ensure.
+-- own promises allow. `Does` is what SET, PUT, OPEN, CLOSE, DROP, UNDO, ASK and CONFIRM each ensure.
 pub data Trace : List Call → List Answer → Book → Type 0 where
   start : Trace [] [] fresh
   then : {calls : List Call} {answers : List Answer} {b : Book} → Trace calls answers b → (c : Call) (r : Done) → Does b c r

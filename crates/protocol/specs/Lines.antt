@@ -7,13 +7,13 @@ use lib.Dec.{ltb}
 use lib.ListN.{length, getD, drop}
 use Rattle.calendar.specs.declared.Period.{Period}
 use Rattle.book.specs.declared.Book.{Book}
-use Rattle.book.specs.Calls.{Sheet, sheetAt, Act, SET, PUT, OPEN, CLOSE, DROP, UNDO, Call, call}
+use Rattle.book.specs.Calls.{Sheet, sheetAt, Act, SET, PUT, OPEN, CLOSE, DROP, UNDO, ASK, CONFIRM, Call, call}
 use Rattle.book.specs.Book.{step}
 use Rattle.queries.specs.Queries.{Telling, benchmarkOf, maximumOf, quoteOf}
 use Rattle.trial.specs.Trial.{trialOf}
 use Rattle.lines.specs.Words.{longestLine, withoutReturn}
 use Rattle.request.specs.declared.CodeStep.{CodeStep}
-use Rattle.request.specs.declared.CodeStep.the-variants.{Put, Open, Close, Drop}
+use Rattle.request.specs.declared.CodeStep.the-variants.{Put, Open, Close, Drop, Ask, Confirm}
 use Rattle.request.specs.declared.Query.{Query}
 use Rattle.request.specs.declared.Query.the-variants.{Benchmark, Maximum, Quote, Trial}
 use Rattle.request.specs.declared.Word.{Word}
@@ -37,6 +37,8 @@ onOf Put ns = PUT (getD ns 0 0) (drop 1 ns)
 onOf Open ns = OPEN (getD ns 0 0)
 onOf Close ns = CLOSE (getD ns 0 0)
 onOf Drop ns = DROP (getD ns 0 0)
+onOf Ask ns = ASK (getD ns 0 0)
+onOf Confirm ns = CONFIRM (getD ns 0 0)
 
 -- what the book tells to these numbers
 abbrev pub toldOf : Book → Query → List ℕ → Telling

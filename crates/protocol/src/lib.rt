@@ -166,6 +166,8 @@ fn settled(step: CodeStep, numbers: &[u32], p: Place, loaded: bool, figures: Ben
         CodeStep::Open => codes::settle(CodeAct::Open, numbers[0], p, loaded, figures),
         CodeStep::Close => codes::settle(CodeAct::Close, numbers[0], p, loaded, figures),
         CodeStep::Drop => codes::settle(CodeAct::Drop, numbers[0], p, loaded, figures),
+        CodeStep::Ask => codes::settle(CodeAct::Ask, numbers[0], p, loaded, figures),
+        CodeStep::Confirm => codes::settle(CodeAct::Confirm, numbers[0], p, loaded, figures),
     }
 }
 

@@ -14,7 +14,7 @@ use Rattle.benchmark.specs.declared.Benchmarks.{Benchmarks}
 use Rattle.benchmark.specs.Benchmark.{benchmark}
 use Rattle.tariff.specs.declared.Tariff.{Tariff}
 use Rattle.book.specs.declared.State.{State}
-use Rattle.book.specs.declared.State.the-variants.{Empty, Draft, Open}
+use Rattle.book.specs.declared.State.the-variants.{Empty, Draft, Marked, Open}
 use Rattle.book.specs.declared.Place.{Place}
 use Rattle.book.specs.declared.Book.{Book}
 use Rattle.book.specs.Calls.{Sheet}
@@ -63,6 +63,8 @@ quote-table false q x l s test told = refl
 quote-table true Empty x l s test told = refl
 quote-table true Draft x false s test told = refl
 quote-table true Draft x true s test told = need-checked refused (test s x) 13 (told s x)
+quote-table true Marked x false s test told = refl
+quote-table true Marked x true s test told = need-checked refused (test s x) 13 (told s x)
 quote-table true Open x false s test told = refl
 quote-table true Open x true s test told = need-checked refused (test s x) 13 (told s x)
 

@@ -8,7 +8,7 @@ use lib.ListN.{length, getD, drop, length-append}
 use lib.Seq.{drop-drop, take-at, drop-at}
 use Rattle.book.specs.declared.Book.{Book}
 use Rattle.book.specs.declared.Done.{Done}
-use Rattle.book.specs.Calls.{sheetAt, Act, SET, PUT, OPEN, CLOSE, DROP, UNDO, Call, call}
+use Rattle.book.specs.Calls.{sheetAt, Act, SET, PUT, OPEN, CLOSE, DROP, UNDO, ASK, CONFIRM, Call, call}
 use Rattle.book.specs.Book.{step, Reachable}
 use Rattle.book.specs.Promises.{answerOf, Does}
 use Rattle.book.proofs.Reached.{does-reachable}
@@ -48,6 +48,8 @@ decoded (OPEN k) rest = record { fits = omega arith; asks = refl; left = refl }
 decoded (CLOSE k) rest = record { fits = omega arith; asks = refl; left = refl }
 decoded (DROP k) rest = record { fits = omega arith; asks = refl; left = refl }
 decoded UNDO rest = record { fits = omega arith; asks = refl; left = refl }
+decoded (ASK k) rest = record { fits = omega arith; asks = refl; left = refl }
+decoded (CONFIRM k) rest = record { fits = omega arith; asks = refl; left = refl }
 
 module _ (b : Book) (s : List ℕ) (start : Reachable b) (r : Ran) where
   starts : (c : Call) (rest : List ℕ) → s ≡ encodeAct (c .act) ++ rest → Starts s (c .act) rest

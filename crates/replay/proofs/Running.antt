@@ -8,7 +8,7 @@ use native.Mathlib.Numerals.{add-one}
 use lib.ListN.{length, drop, set, length-set}
 use lib.Seq.{sets}
 use Rattle.book.specs.declared.Book.{Book}
-use Rattle.book.specs.Calls.{Act, SET, PUT, OPEN, CLOSE, DROP, UNDO, Call}
+use Rattle.book.specs.Calls.{Act, SET, PUT, OPEN, CLOSE, DROP, UNDO, ASK, CONFIRM, Call}
 use Rattle.book.specs.Book.{bookAfter, answersOf}
 use Rattle.replay.specs.declared.Ran.{Ran}
 use Rattle.replay.specs.Encoded.{encodeAct, encode, numberOf}
@@ -29,6 +29,8 @@ encoded-long (OPEN k) l = omega arith
 encoded-long (CLOSE k) l = omega arith
 encoded-long (DROP k) l = omega arith
 encoded-long UNDO l = omega arith
+encoded-long (ASK k) l = omega arith
+encoded-long (CONFIRM k) l = omega arith
 
 module _ (B : Book) (O rest : List ℕ) (b : Book) (out : List ℕ) (n : ℕ) where
   -- one call is run

@@ -10,7 +10,7 @@ use Rattle.book.specs.declared.Book.{Book}
 use Rattle.book.specs.Calls.{sheetAt, Act, SET, PUT, UNDO, Call}
 use Rattle.book.specs.Book.{step, Reachable}
 use Rattle.codes.specs.declared.CodeAct.{CodeAct}
-use Rattle.codes.specs.declared.CodeAct.the-variants.{Open, Close, Drop}
+use Rattle.codes.specs.declared.CodeAct.the-variants.{Open, Close, Drop, Ask, Confirm}
 use Rattle.codes.specs.Codes.{actOn}
 use Rattle.replay.specs.declared.Ran.{Ran}
 use Rattle.replay.specs.Encoded.{encodeCall, numberOf}
@@ -20,7 +20,7 @@ use Rattle.replay.specs.Encoded.{encodeCall, numberOf}
 abbrev pub endOf : List ℕ → ℕ
 endOf s =
     cond (eqb (getD s 0 0) 0) (5 + getD s 4 0)
-    (cond (eqb (getD s 0 0) 1) (3 + getD s 2 0) (cond (leb (getD s 0 0) 4) 2 (cond (eqb (getD s 0 0) 5) 1 (length s + 1))))
+    (cond (eqb (getD s 0 0) 1) (3 + getD s 2 0) (cond (eqb (getD s 0 0) 5) 1 (cond (leb (getD s 0 0) 7) 2 (length s + 1))))
 
 abbrev pub setTo : List ℕ → ℕ → Act
 setTo s end = SET (sheetAt (take (end - 5) (drop 5 s)) (record { year = getD s 1 0; month = getD s 2 0; months = getD s 3 0 }))
@@ -29,7 +29,7 @@ abbrev pub putTo : List ℕ → ℕ → Act
 putTo s end = PUT (getD s 1 0) (take (end - 3) (drop 3 s))
 
 abbrev pub codeActOf : ℕ → CodeAct
-codeActOf op = cond (eqb op 2) Open (cond (eqb op 3) Close Drop)
+codeActOf op = cond (eqb op 2) Open (cond (eqb op 3) Close (cond (eqb op 4) Drop (cond (eqb op 6) Ask Confirm)))
 
 abbrev pub actTo : List ℕ → ℕ → Act
 actTo s end =

@@ -1,6 +1,6 @@
 // A lent list of encoded calls, run from a fresh book.
 // Promise: `run`'s own contract is demand 3, of the answers that it wrote and the book that it returns. It is the witness that the
-// contracts of SET, PUT, OPEN, CLOSE, DROP and UNDO compose. A list that encodes no calls ends the run where it stops making sense.
+// contracts of SET, PUT, OPEN, CLOSE, DROP, UNDO, ASK and CONFIRM compose. A list that encodes no calls ends the run where it stops making sense.
 ghost use mathlib.Core.Path.{_≡_};
 ghost use mathlib.Core.List.{List, map};
 ghost use Prim.Native.Nat.{ℕ, _≤_, _<_};
@@ -31,7 +31,7 @@ fn number_of(reply: Reply) -> u64
 {
     match reply {
         Reply::Accepted => 0,
-        Reply::Opened(cells) => 100 + cells as u64,
+        Reply::Cells(cells) => 100 + cells as u64,
         Reply::Refused(n) => n as u64,
         Reply::Over(_, _, _, _) => 11,
     }
@@ -59,11 +59,11 @@ fn end_of(calls: &[u32]) -> usize
     if op == 1 {
         return 3 + number_at(calls, 2) as usize;
     }
-    if op <= 4 {
-        return 2;
-    }
     if op == 5 {
         return 1;
+    }
+    if op <= 7 {
+        return 2;
     }
     calls.len() + 1
 }
@@ -89,7 +89,7 @@ fn put_to(b: Book, calls: &[u32], end: usize) -> Done
     codes::put(b, calls[1], &calls[3..end])
 }
 
-// OPEN, CLOSE or DROP: 2, 3 or 4, and the code.
+// OPEN, CLOSE, DROP, ASK or CONFIRM: 2, 3, 4, 6 or 7, and the code.
 fn code_act(op: u32) -> CodeAct
     ensures { λ r. ⌜ r ≡ codeActOf op ⌝ }
 {
@@ -99,7 +99,13 @@ fn code_act(op: u32) -> CodeAct
     if op == 3 {
         return CodeAct::Close;
     }
-    CodeAct::Drop
+    if op == 4 {
+        return CodeAct::Drop;
+    }
+    if op == 6 {
+        return CodeAct::Ask;
+    }
+    CodeAct::Confirm
 }
 
 // The call that ends at `end` is made.

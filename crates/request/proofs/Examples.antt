@@ -5,7 +5,7 @@ use mathlib.Core.List.{[], _∷_}
 use Rattle.texts.specs.Texts.{bytesOf}
 use Rattle.lines.specs.Words.{parts, notEmpty, words}
 use Rattle.lines.specs.Numerals.{digits, valueAfter, value, numbersIn}
-use Rattle.request.specs.declared.CodeStep.the-variants.{Put, Open, Close, Drop}
+use Rattle.request.specs.declared.CodeStep.the-variants.{Put, Open, Close, Drop, Ask, Confirm}
 use Rattle.request.specs.declared.Query.the-variants.{Benchmark, Maximum, Quote, Trial}
 use Rattle.request.specs.declared.Word.the-variants.{Set, Undo, On, Tells}
 use Rattle.request.specs.declared.Request.the-variants.{Nothing, Asks, Unknown, NotANumber, WrongCount}
@@ -56,6 +56,22 @@ closed = refl
 dropped : requestOf (bytesOf "drop 1") ≡ Asks (On Drop) 1
 unfolding requestOf words parts notEmpty same named numbersIn digits valueAfter value
 dropped = refl
+
+asked-for : requestOf (bytesOf "ask 1") ≡ Asks (On Ask) 1
+unfolding requestOf words parts notEmpty same named numbersIn digits valueAfter value
+asked-for = refl
+
+confirmed : requestOf (bytesOf "confirm 1") ≡ Asks (On Confirm) 1
+unfolding requestOf words parts notEmpty same named numbersIn digits valueAfter value
+confirmed = refl
+
+confirmed-bare : requestOf (bytesOf "confirm") ≡ WrongCount (On Confirm)
+unfolding requestOf words parts notEmpty same named numbersIn digits valueAfter value
+confirmed-bare = refl
+
+cut-short : requestOf (bytesOf "confi 1") ≡ Unknown
+unfolding requestOf words parts notEmpty same named numbersIn digits valueAfter value
+cut-short = refl
 
 asked : requestOf (bytesOf "benchmark 13 1 0 1") ≡ Asks (Tells Benchmark) 4
 unfolding requestOf words parts notEmpty same named numbersIn digits valueAfter value

@@ -1,6 +1,6 @@
 -- Laws of the names of the calls.
 -- Assumes nothing.
-use mathlib.Core.Path.{_≡_, refl, sym, _∙_, ap}
+use mathlib.Core.Path.{_≡_, refl, sym, _∙_, ap, ap₂}
 use mathlib.Core.Bool.{Bool, true, false, cond}
 use mathlib.Core.List.{List, [], _∷_}
 use Prim.Native.Nat.{ℕ}
@@ -9,7 +9,7 @@ use lib.Dec.{eqb}
 use lib.ListN.{length, getD}
 use borrow.Author.Tests.{eqb-true}
 use Rattle.laws.proofs.Every.{and-left, and-right}
-use Rattle.request.specs.declared.CodeStep.the-variants.{Put, Open, Close, Drop}
+use Rattle.request.specs.declared.CodeStep.the-variants.{Put, Open, Close, Drop, Ask, Confirm}
 use Rattle.request.specs.declared.Query.the-variants.{Benchmark, Maximum, Quote, Trial}
 use Rattle.request.specs.declared.Word.{Word}
 use Rattle.request.specs.declared.Word.the-variants.{Set, Undo, On, Tells}
@@ -36,6 +36,8 @@ named-by (On Put) = refl
 named-by (On Open) = refl
 named-by (On Close) = refl
 named-by (On Drop) = refl
+named-by (On Ask) = refl
+named-by (On Confirm) = refl
 named-by (Tells Benchmark) = refl
 named-by (Tells Maximum) = refl
 named-by (Tells Quote) = refl
@@ -54,45 +56,50 @@ unfolding named
 none-named [] w h = refl
 none-named (c ∷ cs) w h = skip w c (named cs w) (h c) ∙ none-named cs w h
 
--- the calls' names begin with ten bytes
-abbrev callBy : ℕ → Word
-callBy n =
-    cond (eqb n 98) (Tells Benchmark)
-    (cond (eqb n 99) (On Close)
+-- the calls' names begin with eleven bytes, and the two that begin with one are not as long
+abbrev pub callBy : (first size : ℕ) → Word
+callBy n size =
+    cond (eqb n 97) (On Ask)
+    (cond (eqb n 98) (Tells Benchmark)
+    (cond (eqb n 99) (cond (eqb size 5) (On Close) (On Confirm))
     (cond (eqb n 100) (On Drop)
     (cond (eqb n 109) (Tells Maximum)
-    (cond (eqb n 111) (On Open) (cond (eqb n 112) (On Put) (cond (eqb n 113) (Tells Quote) (cond (eqb n 115) Set (cond (eqb n 117) Undo (Tells Trial)))))))))
+    (cond (eqb n 111) (On Open) (cond (eqb n 112) (On Put) (cond (eqb n 113) (Tells Quote) (cond (eqb n 115) Set (cond (eqb n 117) Undo (Tells Trial))))))))))
 
-by-first : (c : Word) → c ≡ callBy (getD (nameOf c) 0 0)
+by-first : (c : Word) → c ≡ callBy (getD (nameOf c) 0 0) (length (nameOf c))
 by-first Set = refl
 by-first Undo = refl
 by-first (On Put) = refl
 by-first (On Open) = refl
 by-first (On Close) = refl
 by-first (On Drop) = refl
+by-first (On Ask) = refl
+by-first (On Confirm) = refl
 by-first (Tells Benchmark) = refl
 by-first (Tells Maximum) = refl
 by-first (Tells Quote) = refl
 by-first (Tells Trial) = refl
 
-pub first-alone : (c d : Word) → getD (nameOf c) 0 0 ≡ getD (nameOf d) 0 0 → c ≡ d
-first-alone c d e = by-first c ∙ ap callBy e ∙ sym (by-first d)
+pub called-by : (c : Word) (n size : ℕ) → getD (nameOf c) 0 0 ≡ n → length (nameOf c) ≡ size → c ≡ callBy n size
+called-by c n size e l = by-first c ∙ ap₂ callBy e l
 
--- a byte that is none of the first nine leaves one call
-pub last-call : (n : ℕ) → (n ≡ 98 → ⊥) → (n ≡ 99 → ⊥) → (n ≡ 100 → ⊥) → (n ≡ 109 → ⊥) → (n ≡ 111 → ⊥) → (n ≡ 112 → ⊥) → (n ≡ 113 → ⊥) → (n ≡ 115 → ⊥) → (n ≡ 117 → ⊥)
+-- a byte that is none of the first ten leaves one call
+pub last-call : (n : ℕ) → (n ≡ 97 → ⊥) → (n ≡ 98 → ⊥) → (n ≡ 99 → ⊥) → (n ≡ 100 → ⊥) → (n ≡ 109 → ⊥) → (n ≡ 111 → ⊥) → (n ≡ 112 → ⊥) → (n ≡ 113 → ⊥) → (n ≡ 115 → ⊥) → (n ≡ 117 → ⊥)
     → (c : Word) → getD (nameOf c) 0 0 ≡ n → c ≡ Tells Trial
-last-call n b k d m o p q s u Set e = absurd (s (sym e))
-last-call n b k d m o p q s u Undo e = absurd (u (sym e))
-last-call n b k d m o p q s u (On Put) e = absurd (p (sym e))
-last-call n b k d m o p q s u (On Open) e = absurd (o (sym e))
-last-call n b k d m o p q s u (On Close) e = absurd (k (sym e))
-last-call n b k d m o p q s u (On Drop) e = absurd (d (sym e))
-last-call n b k d m o p q s u (Tells Benchmark) e = absurd (b (sym e))
-last-call n b k d m o p q s u (Tells Maximum) e = absurd (m (sym e))
-last-call n b k d m o p q s u (Tells Quote) e = absurd (q (sym e))
-last-call n b k d m o p q s u (Tells Trial) e = refl
+last-call n a b k d m o p q s u Set e = absurd (s (sym e))
+last-call n a b k d m o p q s u Undo e = absurd (u (sym e))
+last-call n a b k d m o p q s u (On Put) e = absurd (p (sym e))
+last-call n a b k d m o p q s u (On Open) e = absurd (o (sym e))
+last-call n a b k d m o p q s u (On Close) e = absurd (k (sym e))
+last-call n a b k d m o p q s u (On Drop) e = absurd (d (sym e))
+last-call n a b k d m o p q s u (On Ask) e = absurd (a (sym e))
+last-call n a b k d m o p q s u (On Confirm) e = absurd (k (sym e))
+last-call n a b k d m o p q s u (Tells Benchmark) e = absurd (b (sym e))
+last-call n a b k d m o p q s u (Tells Maximum) e = absurd (m (sym e))
+last-call n a b k d m o p q s u (Tells Quote) e = absurd (q (sym e))
+last-call n a b k d m o p q s u (Tells Trial) e = refl
 
--- what a word names: nothing where it has no byte; else the one call whose name begins as it does, where that name is the word
+-- what a word names: nothing where it has no byte; else the one call whose name begins as it does and is as long, where that name is the word
 pub names-nothing : (w : List ℕ) → length w ≡ 0 → None ≡ named calls w
 unfolding named same
 names-nothing [] e = refl
@@ -102,6 +109,6 @@ module _ (w name : List ℕ) (g : Word) (its : name ≡ nameOf g) where
   pub names-it : w ≡ name → By g ≡ named calls w
   names-it e = sym (ap (named calls) (e ∙ its) ∙ named-by g)
 
-  pub names-none : ((c : Word) → getD (nameOf c) 0 0 ≡ getD w 0 0 → c ≡ g) → (w ≡ name → ⊥) → None ≡ named calls w
+  pub names-none : ((c : Word) → getD (nameOf c) 0 0 ≡ getD w 0 0 → length (nameOf c) ≡ length w → c ≡ g) → (w ≡ name → ⊥) → None ≡ named calls w
   names-none only other =
-      sym (none-named calls w (λ c e. other (e ∙ ap nameOf (only c (ap (λ xs. getD xs 0 0) (sym e))) ∙ sym its)))
+      sym (none-named calls w (λ c e. other (e ∙ ap nameOf (only c (ap (λ xs. getD xs 0 0) (sym e)) (ap length (sym e))) ∙ sym its)))

@@ -11,7 +11,7 @@ use Rattle.lines.specs.declared.Numbers.{Numbers}
 use Rattle.lines.specs.declared.Numbers.the-variants.{All, Bad}
 use Rattle.lines.specs.Words.{words}
 use Rattle.lines.specs.Numerals.{value, numbersIn}
-use Rattle.request.specs.declared.CodeStep.the-variants.{Put, Open, Close, Drop}
+use Rattle.request.specs.declared.CodeStep.the-variants.{Put, Open, Close, Drop, Ask, Confirm}
 use Rattle.request.specs.declared.Query.the-variants.{Benchmark, Maximum, Quote, Trial}
 use Rattle.request.specs.declared.Word.{Word}
 use Rattle.request.specs.declared.Word.the-variants.{Set, Undo, On, Tells}
@@ -23,9 +23,10 @@ use Rattle.request.specs.declared.Named.the-variants.{By, None}
 use Rattle.request.specs.declared.Request.{Request}
 use Rattle.request.specs.declared.Request.the-variants.{Nothing, Asks, Unknown, NotANumber, WrongCount}
 
--- the ten calls: SET, UNDO, four on a code, and four that tell of the book
+-- the twelve calls: SET, UNDO, six on a code, and four that tell of the book
 abbrev pub calls : List Word
-calls = Set ∷ Undo ∷ On Put ∷ On Open ∷ On Close ∷ On Drop ∷ Tells Benchmark ∷ Tells Maximum ∷ Tells Quote ∷ Tells Trial ∷ []
+calls =
+    Set ∷ Undo ∷ On Put ∷ On Open ∷ On Close ∷ On Drop ∷ On Ask ∷ On Confirm ∷ Tells Benchmark ∷ Tells Maximum ∷ Tells Quote ∷ Tells Trial ∷ []
 
 abbrev pub nameOf : Word → List ℕ
 nameOf Set = bytesOf "set"
@@ -34,6 +35,8 @@ nameOf (On Put) = bytesOf "put"
 nameOf (On Open) = bytesOf "open"
 nameOf (On Close) = bytesOf "close"
 nameOf (On Drop) = bytesOf "drop"
+nameOf (On Ask) = bytesOf "ask"
+nameOf (On Confirm) = bytesOf "confirm"
 nameOf (Tells Benchmark) = bytesOf "benchmark"
 nameOf (Tells Maximum) = bytesOf "maximum"
 nameOf (Tells Quote) = bytesOf "quote"
@@ -47,6 +50,8 @@ arity (On Put) = AtLeast 1
 arity (On Open) = Exactly 1
 arity (On Close) = Exactly 1
 arity (On Drop) = Exactly 1
+arity (On Ask) = Exactly 1
+arity (On Confirm) = Exactly 1
 arity (Tells Benchmark) = Exactly 4
 arity (Tells Maximum) = Exactly 4
 arity (Tells Quote) = AtLeast 3

@@ -1,7 +1,7 @@
-// Which call a line asks for: one of the ten with its numbers, or why the line is no call.
+// Which call a line asks for: one of the twelve with its numbers, or why the line is no call.
 // Promise: `request_of` answers what specs/Requests.antt, the desk's protocol, says of every line of bytes, and leaves a call's numbers in
 // order. `Standing` is what the layer above may use of a call: the count is right for it, and its numbers stand there. A call is its
-// case here, its name and arity in `form_of`, and the first byte of its name in `beginning`; all that reads or writes it goes by these.
+// case here, its name and arity in `form_of`, and how its name begins in `beginning`; all that reads or writes it goes by these.
 ghost use mathlib.Core.Path.{_≡_};
 ghost use Prim.Native.Nat.{_≤_};
 ghost use lib.ListN.{length, getD, take};
@@ -15,6 +15,8 @@ pub enum CodeStep {
     Open,
     Close,
     Drop,
+    Ask,
+    Confirm,
 }
 
 // The calls that tell of the book.
@@ -83,6 +85,8 @@ pub fn form_of(word: Word) -> Form
             CodeStep::Open => formed(*b"open     ", 4, Arity::Exactly(1)),
             CodeStep::Close => formed(*b"close    ", 5, Arity::Exactly(1)),
             CodeStep::Drop => formed(*b"drop     ", 4, Arity::Exactly(1)),
+            CodeStep::Ask => formed(*b"ask      ", 3, Arity::Exactly(1)),
+            CodeStep::Confirm => formed(*b"confirm  ", 7, Arity::Exactly(1)),
         },
         Word::Tells(query) => match query {
             Query::Benchmark => formed(*b"benchmark", 9, Arity::Exactly(4)),
@@ -93,13 +97,20 @@ pub fn form_of(word: Word) -> Form
     }
 }
 
-// The call whose name begins with a byte, of which there is one at most; where there is none, any call.
-fn beginning(first: u8) -> Word
-    ensures { λ r. ⌜ ((c : Word) → getD (nameOf c) 0 0 ≡ first → c ≡ r) ⌝ }
+// The call whose name begins with a byte and has so many, of which there is one at most; where there is none, any call.
+fn beginning(first: u8, size: usize) -> Word
+    ensures { λ r. ⌜ ((c : Word) → getD (nameOf c) 0 0 ≡ first → length (nameOf c) ≡ size → c ≡ r) ⌝ }
 {
     match first {
+        b'a' => Word::On(CodeStep::Ask),
         b'b' => Word::Tells(Query::Benchmark),
-        b'c' => Word::On(CodeStep::Close),
+        b'c' => {
+            if size == 5 {
+                Word::On(CodeStep::Close)
+            } else {
+                Word::On(CodeStep::Confirm)
+            }
+        }
         b'd' => Word::On(CodeStep::Drop),
         b'm' => Word::Tells(Query::Maximum),
         b'o' => Word::On(CodeStep::Open),
@@ -111,14 +122,14 @@ fn beginning(first: u8) -> Word
     }
 }
 
-// The call that a word names: the one whose name begins as the word does, where that name is the word.
+// The call that a word names: the one whose name begins as the word does and is as long, where that name is the word.
 fn call_named(word: &[u8]) -> Named
     ensures { λ r. ⌜ r ≡ named calls (now (word .entry)) ⌝ }
 {
     if word.len() == 0 {
         return Named::None;
     }
-    let call = beginning(word[0]);
+    let call = beginning(word[0], word.len());
     let form = form_of(call);
     let name = form.name;
     let size = form.size;

@@ -5,7 +5,7 @@ use mathlib.Core.Option.{Option, none}
 use Rattle.benchmark.specs.declared.Benchmarks.{Benchmarks}
 use Rattle.verdict.specs.Cells.{Cell, firstOver}
 use Rattle.book.specs.declared.State.{State}
-use Rattle.book.specs.declared.State.the-variants.{Empty, Draft, Open}
+use Rattle.book.specs.declared.State.the-variants.{Empty, Draft, Marked, Open}
 use Rattle.book.specs.declared.Place.{Place}
 use Rattle.book.specs.Calls.{isNone}
 use Rattle.book.specs.Book.{placeWith, tariffIn, withState, openIf, stateUnder, under}
@@ -22,6 +22,9 @@ module _ (f : Benchmarks) (p : Place) where
 
   pub draft-kept : p .state ≡ Draft → p ≡ under f p
   draft-kept e = same-state Draft e ∙ sym (by-state Draft e)
+
+  pub mark-cleared : p .state ≡ Marked → withState Draft p ≡ under f p
+  mark-cleared e = sym (by-state Marked e)
 
   -- an open tariff, with what the walk found of it
   pub open-judged : p .state ≡ Open → (o : Option Cell) → firstOver f (tariffIn p) ≡ o → withState (openIf (isNone o)) p ≡ under f p

@@ -1,6 +1,6 @@
 // SET: the checks of a sheet and its period, and every open tariff judged by it.
 // Promise: `set` answers and leaves what `step` says of SET, on refused input too: the sheet is replaced, and each open tariff that
-// exceeds somewhere becomes a draft. `judge` does all of that but storing it, for TRIAL too, and asks only
+// exceeds somewhere becomes a draft, and no draft is marked. `judge` does all of that but storing it, for TRIAL too, and asks only
 // that the places hold nothing or valid tariffs. `set` requires document 01's own sentence on the book, `Reachable`.
 ghost use mathlib.Core.Path.{_≡_};
 ghost use mathlib.Core.Bool.{true};
@@ -26,7 +26,7 @@ use refusal::Check;
 use sheet::FIELD_COUNT;
 use verdict::Found;
 
-// A place under the figures of a new sheet: an open tariff that exceeds somewhere becomes a draft.
+// A place under the figures of a new sheet: a mark is cleared, and an open tariff that exceeds somewhere becomes a draft.
 fn judged(p: Place, figures: Benchmarks) -> Place
     requires { ⌜ Lawful figures × HoldsValid p ⌝ }
     ensures { λ r. ⌜ r ≡ under figures p ⌝ }
@@ -35,6 +35,7 @@ fn judged(p: Place, figures: Benchmarks) -> Place
     match state {
         State::Empty => p,
         State::Draft => p,
+        State::Marked => book::in_state(p, State::Draft),
         State::Open => {
             let found = verdict::first_over(figures, book::tariff_in(p));
             match found {

@@ -144,7 +144,7 @@ fn wide(x: u32) -> u64 {
 fn fold_reply(sum: u64, reply: Reply) -> u64 {
     match reply {
         Reply::Accepted => fold(sum, 0),
-        Reply::Opened(cells) => fold(sum, 100 + cells as u64),
+        Reply::Cells(cells) => fold(sum, 100 + cells as u64),
         Reply::Refused(n) => fold(sum, n as u64),
         Reply::Over(region, method, months, excess) => {
             let cell = fold(fold(sum, region as u64), method as u64);

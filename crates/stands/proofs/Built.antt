@@ -1,4 +1,4 @@
--- Every book that stands is reachable: SET its sheet, if it has one, and then place by place PUT the record and OPEN what is open; where there
+-- Every book that stands is reachable: SET its sheet, if it has one, and then place by place PUT the record, ASK what is marked and OPEN what is open; where there
 -- is a SET to take back, the same of the book before it, and that SET.
 -- Assumes nothing.
 use mathlib.Core.Path.{_≡_, refl, sym, _∙_, ap, subst}
@@ -15,12 +15,12 @@ use Rattle.tariff.specs.declared.Tariff.{Tariff}
 use Rattle.tariff.specs.Tariff.{tariffOf, recordCheck}
 use Rattle.verdict.specs.Cells.{cellCount, verdict}
 use Rattle.book.specs.declared.State.{State}
-use Rattle.book.specs.declared.State.the-variants.{Empty, Draft, Open}
+use Rattle.book.specs.declared.State.the-variants.{Empty, Draft, Marked, Open}
 use Rattle.book.specs.declared.Place.{Place}
 use Rattle.book.specs.declared.Book.{Book}
-use Rattle.book.specs.Calls.{Sheet, Record, SET, PUT, OPEN, call, accepted, opened, refused}
-use Rattle.book.specs.Checks.{figuresOf, inside, putAnswer, openAnswer}
-use Rattle.book.specs.Book.{empty, placeWith, tariffIn, withState, nothingKept, fresh, beyond, held, sheetIf, sheetIn, inForce, withPlaces, withPlace, under, restored, changed, Reachable}
+use Rattle.book.specs.Calls.{Sheet, Record, Act, SET, PUT, OPEN, ASK, call, accepted, cells, refused}
+use Rattle.book.specs.Checks.{Readings, figuresOf, inside, putAnswer, openAnswer, answer}
+use Rattle.book.specs.Book.{empty, placeWith, tariffIn, withState, nothingKept, fresh, beyond, placeOf, held, sheetIf, sheetIn, inForce, withPlaces, withPlace, under, restored, changed, Reachable}
 use Rattle.book.proofs.Places.{in-range}
 use Rattle.book.proofs.Reached.{fresh-reachable, step-reachable}
 use Rattle.book.proofs.Steps.{made}
@@ -36,9 +36,9 @@ Has b ps = Reachable (withPlaces b ps nothingKept)
 abbrev Reached : Book → List Place → Place → List Place → Type 0
 Reached b xs p ys = Has b (xs ++ p ∷ ys)
 
--- a tariff that may be open: a sheet is loaded, and OPEN answers with the number of cells
+-- a tariff that may be open: a sheet is loaded, and the checks of OPEN answer with the number of cells
 may-open : (l : Bool) (s : Sheet) (k : ℕ) (x : Tariff) → inside k ≡ true → MayOpen (sheetIf l s) x
-    → openAnswer k (held (placeWith Draft x)) (sheetIf l s) ≡ opened (cellCount x)
+    → openAnswer k (held (placeWith Draft x)) (sheetIf l s) ≡ cells (cellCount x)
 unfolding verdict
 may-open true s k x r h = rw (r, h)
 may-open false s k x r h = absurd h
@@ -57,17 +57,20 @@ module _ (b : Book) (xs ys : List Place) (within : length xs < 32) where
       let m = made d (call (PUT k y)) accepted a refl in
       subst Reachable (m ∙ ap (λ ps. withPlaces b ps nothingKept) (set-append-seam xs empty ys (placeWith Draft (tariffOf y)))) (step-reachable r (call (PUT k y)))
 
-  open-there : (x : Tariff) → MayOpen (inForce b) x → Reached b xs (placeWith Draft x) ys → Reached b xs (placeWith Open x) ys
+  -- a call with the checks of OPEN, which leaves the tariff in state q
+  stood-there : (q : State) (a : ℕ → Act) → ((r : Readings) (k : ℕ) → answer r (a k) ≡ openAnswer k (r .held k) (r .sheet))
+      → ((d : Book) (k : ℕ) → changed d (a k) ≡ withPlace d k (withState q (placeOf (d .places) k)))
+      → (x : Tariff) → MayOpen (inForce b) x → Reached b xs (placeWith Draft x) ys → Reached b xs (placeWith q x) ys
   unfolding Has
-  open-there x h r =
+  stood-there q a by leaves x h r =
       let p = placeWith Draft x in
       let d = withPlaces b (xs ++ p ∷ ys) nothingKept in
       let k = suc (length xs) in
       let it = getD-append-seam xs p ys beyond in
-      let a : openAnswer k (held (getD (xs ++ p ∷ ys) (length xs) beyond)) (inForce b) ≡ opened (cellCount x) = ap (λ q. openAnswer k (held q) (inForce b)) it ∙ may-open (b .loaded) (sheetIn b) k x code h in
-      let m = made d (call (OPEN k)) (opened (cellCount x)) a refl in
-      let n = ap (λ q. withPlace d k (withState Open q)) it ∙ ap (λ ps. withPlaces b ps nothingKept) (set-append-seam xs p ys (placeWith Open x)) in
-      subst Reachable (m ∙ n) (step-reachable r (call (OPEN k)))
+      let e = ap (λ o. openAnswer k (held o) (inForce b)) it ∙ may-open (b .loaded) (sheetIn b) k x code h in
+      let m = made d (call (a k)) (cells (cellCount x)) (by _ k ∙ e) refl in
+      let n = ap (λ o. withPlace d k (withState q o)) it ∙ ap (λ ps. withPlaces b ps nothingKept) (set-append-seam xs p ys (placeWith q x)) in
+      subst Reachable (m ∙ (leaves d k ∙ n)) (step-reachable r (call (a k)))
 
   draft-there : (x : Tariff) → Recorded x → Reached b xs empty ys → Reached b xs (placeWith Draft x) ys
   draft-there x h r = rw (h .2) (put-there (h .0) (h .1) r)
@@ -75,7 +78,8 @@ module _ (b : Book) (xs ys : List Place) (within : length xs < 32) where
   place-there : (q : State) (p : Place) → p .state ≡ q → MayStandAs (inForce b) q p → Reached b xs empty ys → Reached b xs p ys
   place-there Empty p s h r = rw h r
   place-there Draft p s h r = subst (λ q. Reached b xs (placeWith q (tariffIn p)) ys) (sym s) (draft-there (tariffIn p) h r)
-  place-there Open p s h r = subst (λ q. Reached b xs (placeWith q (tariffIn p)) ys) (sym s) (open-there (tariffIn p) (h .1) (draft-there (tariffIn p) (h .0) r))
+  place-there Marked p s h r = subst (λ q. Reached b xs (placeWith q (tariffIn p)) ys) (sym s) (stood-there Marked ASK (λ r k. refl) (λ d k. refl) (tariffIn p) (h .1) (draft-there (tariffIn p) (h .0) r))
+  place-there Open p s h r = subst (λ q. Reached b xs (placeWith q (tariffIn p)) ys) (sym s) (stood-there Open OPEN (λ r k. refl) (λ d k. refl) (tariffIn p) (h .1) (draft-there (tariffIn p) (h .0) r))
 
 -- all places: xs stand already, and ps come in place of as many empty ones
 fill : (b : Book) (xs ps : List Place) → length xs + length ps ≡ 32 → ((i : ℕ) → i < length ps → MayStand (inForce b) (getD ps i beyond))

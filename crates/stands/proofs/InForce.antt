@@ -14,7 +14,7 @@ use Rattle.benchmark.proofs.Lawful.{lawful}
 use Rattle.tariff.specs.declared.Tariff.{Tariff}
 use Rattle.tariff.specs.Tariff.{validTariff}
 use Rattle.book.specs.declared.State.{State}
-use Rattle.book.specs.declared.State.the-variants.{Empty, Draft, Open}
+use Rattle.book.specs.declared.State.the-variants.{Empty, Draft, Marked, Open}
 use Rattle.book.specs.declared.Place.{Place}
 use Rattle.book.specs.declared.Book.{Book}
 use Rattle.book.specs.Calls.{Sheet}
@@ -44,6 +44,7 @@ module _ (b : Book) (from : Reachable b) where
   holds : (s : Option Sheet) (q : State) (p : Place) → MayStandAs s q p → HoldsValidAs q (tariffIn p)
   holds s Empty p f = tt
   holds s Draft p f = recorded-valid (tariffIn p) f
+  holds s Marked p f = recorded-valid (tariffIn p) (f .0)
   holds s Open p f = recorded-valid (tariffIn p) (f .0)
 
   pub holds-at : (i : ℕ) → i < 32 → HoldsValid (getD (b .places) i beyond)
@@ -55,6 +56,7 @@ module _ (b : Book) (from : Reachable b) where
   filled : (q : State) (x : Tariff) → HoldsValidAs q x → emptyCheck q ≡ Pass → validTariff x ≡ true
   filled Empty x h e = never (cc)
   filled Draft x h e = h
+  filled Marked x h e = h
   filled Open x h e = h
 
   pub filled-valid : (i : ℕ) → i < 32 → emptyCheck (getD (b .places) i beyond .state) ≡ Pass → validTariff (tariffIn (getD (b .places) i beyond)) ≡ true

@@ -1,7 +1,7 @@
 -- Every reachable book stands: a fresh book does, and each accepted call keeps it so.
 -- Assumes nothing.
 use mathlib.Core.Path.{_≡_, refl, sym, _∙_, ap, subst}
-use mathlib.Core.Bool.{Bool, true, false, cond}
+use mathlib.Core.Bool.{Bool, true, false, cond, _||_, or-true}
 use mathlib.Core.Option.{Option, none, some}
 use Prim.Native.Nat.{ℕ, zero, suc}
 use native.Mathlib.Omega.{arith}
@@ -13,26 +13,28 @@ use Rattle.benchmark.specs.Benchmark.{setCheck}
 use Rattle.tariff.specs.declared.Tariff.{Tariff}
 use Rattle.verdict.specs.Cells.{firstOver}
 use Rattle.book.specs.declared.State.{State}
-use Rattle.book.specs.declared.State.the-variants.{Empty, Draft, Open}
+use Rattle.book.specs.declared.State.the-variants.{Empty, Draft, Marked, Open}
 use Rattle.book.specs.declared.Place.{Place}
 use Rattle.book.specs.declared.Book.{Book}
-use Rattle.book.specs.Calls.{Sheet, Act, SET, PUT, OPEN, CLOSE, DROP, UNDO, accepted, isAccepted, isNone}
-use Rattle.book.specs.Checks.{Holding, figuresOf, complies, inside, answer}
+use Rattle.book.specs.Calls.{Sheet, Act, SET, PUT, OPEN, CLOSE, DROP, UNDO, ASK, CONFIRM, accepted, isAccepted, isNone}
+use Rattle.book.specs.Checks.{Holding, figuresOf, complies, inside, openAnswer, answer}
 use Rattle.book.specs.Book.{empty, tariffIn, withState, nothingKept, fresh, beyond, placeOf, holding, heldIn, held, inForce, bookReadings, withPlace, openIf, stateUnder, under, changed, Reachable}
 use Rattle.book.proofs.Places.{code-range, at-set, length-setPlace, at-map}
-use Rattle.book.proofs.Accepted.{checked-accepted, need-accepted, put-accepted, close-accepted, drop-accepted, open-accepted}
+use Rattle.book.proofs.Accepted.{checked-accepted, need-accepted, put-accepted, close-accepted, drop-accepted, confirm-accepted, open-accepted}
 use Rattle.book.proofs.Reached.{always}
 use Rattle.stands.specs.Stands.{Recorded, MayOpen, MayStandAs, MayStand, Fits, Stands}
 use Rattle.stands.proofs.Undone.{fits-unkept, undone}
 
--- a place that holds something holds the tariff of a record that passes refusal 8, and one that may be open where it is
+-- a place that holds something holds the tariff of a record that passes refusal 8, and one that may be open where it is open or marked
 pub held-fits : (f : Option Sheet) (s : State) (p : Place) → MayStandAs f s p → (h : Holding) → heldIn s (tariffIn p) ≡ some h
-    → Recorded (tariffIn p) × (tariffIn p ≡ h .tariff) × (h .isOpen ≡ true → MayOpen f (tariffIn p))
+    → Recorded (tariffIn p) × (tariffIn p ≡ h .tariff) × ((h .isOpen || h .isMarked) ≡ true → MayOpen f (tariffIn p))
 held-fits f Empty p w h e = never (cc)
 held-fits f Draft p w h e =
-    let same : holding (tariffIn p) false ≡ h = cc in
-    (w, ap (λ g. g .tariff) same, λ q. never (let z : false ≡ true = ap (λ g. g .isOpen) same ∙ q in cc))
-held-fits f Open p w h e = let same : holding (tariffIn p) true ≡ h = cc in (w .0, ap (λ g. g .tariff) same, λ q. w .1)
+    let same : holding (tariffIn p) false false ≡ h = cc in
+    let z : false ≡ (h .isOpen || h .isMarked) = ap (λ g. g .isOpen || g .isMarked) same in
+    (w, ap (λ g. g .tariff) same, λ q. never (cc))
+held-fits f Marked p w h e = let same : holding (tariffIn p) false true ≡ h = cc in (w .0, ap (λ g. g .tariff) same, λ q. w .1)
+held-fits f Open p w h e = let same : holding (tariffIn p) true false ≡ h = cc in (w .0, ap (λ g. g .tariff) same, λ q. w .1)
 
 pub none-of : {A : Type 0} (o : Option A) → isNone o ≡ true → o ≡ none
 none-of none e = refl
@@ -41,13 +43,14 @@ none-of (some c) e = never (cc)
 fits-under : (f : Option Sheet) (s : Sheet) (q : State) (p : Place) → MayStandAs f q p → MayStand (some s) (withState (stateUnder (figuresOf s) q (tariffIn p)) p)
 fits-under f s Empty p h = ap (withState Empty) h
 fits-under f s Draft p h = h
+fits-under f s Marked p h = h .0
 fits-under f s Open p h = go (complies (figuresOf s) (tariffIn p)) refl
   where
     go : (t : Bool) → complies (figuresOf s) (tariffIn p) ≡ t → MayStand (some s) (withState (openIf t) p)
     go true e = (h .0, none-of (firstOver (figuresOf s) (tariffIn p)) e)
     go false e = h .0
 
--- a tariff opens
+-- a tariff that passes the checks of OPEN may be open
 may-open : (f : Option Sheet) (s : Sheet) (x y : Tariff) → f ≡ some s → x ≡ y → firstOver (figuresOf s) y ≡ none → MayOpen f x
 may-open f s x y e g h = subst (λ o. MayOpen o x) (sym e) (ap (firstOver (figuresOf s)) g ∙ h)
 
@@ -81,6 +84,14 @@ fits-set b h s e =
 bare : (b : Book) → b .kept ≡ nothingKept → Fits b → Stands b
 bare b e h = record { fits = h; nothing-kept = λ l. e; step-kept = λ l. never (let z : false ≡ true = sym (ap (λ k. k .any) e) ∙ l in cc) }
 
+pub passes-open : (b : Book) → Fits b → (k : ℕ) → isAccepted (openAnswer k (held (placeOf (b .places) k)) (inForce b)) ≡ true
+    → let x = tariffIn (placeOf (b .places) k) in (inside k ≡ true) × Recorded x × MayOpen (inForce b) x
+passes-open b h k e =
+    let p = placeOf (b .places) k in
+    let f = open-accepted k (held p) (inForce b) e in
+    let r = held-fits (inForce b) (p .state) p (h .places k (f .code)) (f .h) (f .its) in
+    (f .code, r .0, may-open (inForce b) (f .s) (tariffIn p) (f .h .tariff) (f .in-force) (r .1) (f .none-over))
+
 -- an accepted call
 stands-changed : (b : Book) → Stands b → (a : Act) → isAccepted (answer (bookReadings b) a) ≡ true → Stands (changed b a)
 stands-changed b h (SET s) e =
@@ -95,16 +106,22 @@ stands-changed b h (PUT k x) e =
     let f = put-accepted k (held (placeOf (b .places) k)) x e in
     bare _ refl (fits-place b k _ (h .fits) (f .0) (x, f .1, refl))
 stands-changed b h (OPEN k) e =
-    let p = placeOf (b .places) k in
-    let f = open-accepted k (held p) (inForce b) e in
-    let r = held-fits (inForce b) (p .state) p (h .fits .places k (f .code)) (f .h) (f .its) in
-    bare _ refl (fits-place b k (withState Open p) (h .fits) (f .code) (r .0, may-open (inForce b) (f .s) (tariffIn p) (f .h .tariff) (f .in-force) (r .1) (f .none-over)))
+    let w = passes-open b (h .fits) k e in
+    bare _ refl (fits-place b k (withState Open (placeOf (b .places) k)) (h .fits) (w .0) (w .1, w .2))
 stands-changed b h (CLOSE k) e =
     let p = placeOf (b .places) k in
     let f = close-accepted k (held p) e in
     bare _ refl (fits-place b k (withState Draft p) (h .fits) (f .0) (held-fits (inForce b) (p .state) p (h .fits .places k (f .0)) (f .1) (f .2) .0))
 stands-changed b h (DROP k) e = bare _ refl (fits-place b k empty (h .fits) (drop-accepted k (held (placeOf (b .places) k)) e) refl)
 stands-changed b h UNDO e = bare _ refl (h .step-kept (need-accepted (b .kept .any) 15 accepted e .0) .0)
+stands-changed b h (ASK k) e =
+    let w = passes-open b (h .fits) k e in
+    bare _ refl (fits-place b k (withState Marked (placeOf (b .places) k)) (h .fits) (w .0) (w .1, w .2))
+stands-changed b h (CONFIRM k) e =
+    let p = placeOf (b .places) k in
+    let f = confirm-accepted k (held p) e in
+    let r = held-fits (inForce b) (p .state) p (h .fits .places k (f .0)) (f .1) (f .2) in
+    bare _ refl (fits-place b k (withState Open p) (h .fits) (f .0) (r .0, r .2 (ap (λ m. f .1 .isOpen || m) (f .3) ∙ or-true (f .1 .isOpen))))
 
 fresh-fits : (k : ℕ) → inside k ≡ true → MayStand none (placeOf (fresh .places) k)
 fresh-fits zero o = absurd (omega (arith, code-range 0 o .0))

@@ -1,6 +1,7 @@
 pub mod Undone
 pub mod Kept
 pub mod TakenBack
+pub mod TwoRoads
 pub mod InForce
 pub mod Built
 pub mod Exactly

@@ -12,7 +12,7 @@ use Rattle.tariff.specs.declared.Tariff.{Tariff}
 use Rattle.tariff.specs.Tariff.{tariffOf, validTariff, recordCheck}
 use Rattle.verdict.specs.Cells.{firstOver}
 use Rattle.book.specs.declared.State.{State}
-use Rattle.book.specs.declared.State.the-variants.{Empty, Draft, Open}
+use Rattle.book.specs.declared.State.the-variants.{Empty, Draft, Marked, Open}
 use Rattle.book.specs.declared.Place.{Place}
 use Rattle.book.specs.declared.Book.{Book}
 use Rattle.book.specs.Calls.{Sheet, Record, SET}
@@ -28,10 +28,11 @@ abbrev pub MayOpen : Option Sheet → Tariff → Type 0
 MayOpen none x = ⊥
 MayOpen (some s) x = firstOver (figuresOf s) x ≡ none
 
--- what may stand in a place, by its state: nothing, with zeros; such a tariff as a draft; or one that may be open
+-- what may stand in a place, by its state: nothing, with zeros; such a tariff as a draft; or one that may be open, as a marked draft or open
 abbrev pub MayStandAs : Option Sheet → State → Place → Type 0
 MayStandAs s Empty p = p ≡ empty
 MayStandAs s Draft p = Recorded (tariffIn p)
+MayStandAs s Marked p = Recorded (tariffIn p) × MayOpen s (tariffIn p)
 MayStandAs s Open p = Recorded (tariffIn p) × MayOpen s (tariffIn p)
 
 abbrev pub MayStand : Option Sheet → Place → Type 0
@@ -56,6 +57,7 @@ pub record Stands (b : Book) : Type 0 where
 abbrev pub HoldsValidAs : State → Tariff → Type 0
 HoldsValidAs Empty x = Unit {0}
 HoldsValidAs Draft x = validTariff x ≡ true
+HoldsValidAs Marked x = validTariff x ≡ true
 HoldsValidAs Open x = validTariff x ≡ true
 
 abbrev pub HoldsValid : Place → Type 0

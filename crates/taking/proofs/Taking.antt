@@ -24,7 +24,7 @@ use Rattle.answers.specs.Answers.{answerRoom}
 use Rattle.texts.proofs.Writing.{puts-behind, puts-none}
 use Rattle.lines.specs.Words.{between}
 use Rattle.request.specs.declared.CodeStep.{CodeStep}
-use Rattle.request.specs.declared.CodeStep.the-variants.{Put, Open, Close, Drop}
+use Rattle.request.specs.declared.CodeStep.the-variants.{Put, Open, Close, Drop, Ask, Confirm}
 use Rattle.request.specs.declared.Word.the-variants.{On}
 use Rattle.request.specs.Requests.{arity, RightCount}
 use Rattle.protocol.specs.Lines.{Response, lineAt}
@@ -114,6 +114,8 @@ some-number Put n h = h
 some-number Open n h = omega arith
 some-number Close n h = omega arith
 some-number Drop n h = omega arith
+some-number Ask n h = omega arith
+some-number Confirm n h = omega arith
 
 pub has-place : (b : Book) (numbers : List ℕ) (n i : ℕ) → Reachable b → 1 ≤ n
     → (i < 32) × (inside (getD numbers 0 0) ≡ true → suc i ≡ getD numbers 0 0)

@@ -11,7 +11,7 @@ use Rattle.laws.proofs.Sets.{set-none}
 use Rattle.refusal.specs.declared.Check.the-variants.{Pass}
 use Rattle.benchmark.specs.Benchmark.{setCheck}
 use Rattle.book.specs.declared.State.{State}
-use Rattle.book.specs.declared.State.the-variants.{Empty, Draft, Open}
+use Rattle.book.specs.declared.State.the-variants.{Empty, Draft, Marked, Open}
 use Rattle.book.specs.declared.Place.{Place}
 use Rattle.book.specs.declared.Book.{Book}
 use Rattle.book.specs.Calls.{Sheet, isNone}
@@ -30,6 +30,7 @@ pub stays : (s : Sheet) (q : State) (p : Place) → MayStandAs (some s) q p
     → (isOpen (heldIn q (tariffIn p)) && isDraft (heldIn (stateUnder (figuresOf s) q (tariffIn p)) (tariffIn p))) ≡ false
 stays s Empty p h = refl
 stays s Draft p h = refl
+stays s Marked p h = refl
 stays s Open p h = ap (λ o. isDraft (heldIn (openIf (isNone o)) (tariffIn p))) (h .1)
 
 -- the sheet in force is the book's

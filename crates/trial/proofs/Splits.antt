@@ -10,30 +10,32 @@ use Rattle.benchmark.proofs.Splits.{AlikeButSplit}
 use Rattle.verdict.specs.Cells.{firstOver}
 use Rattle.verdict.proofs.Splits.{first-of-sheets}
 use Rattle.book.specs.declared.State.{State}
-use Rattle.book.specs.declared.State.the-variants.{Empty, Draft, Open}
+use Rattle.book.specs.declared.State.the-variants.{Empty, Draft, Marked, Open}
 use Rattle.book.specs.declared.Place.{Place}
 use Rattle.book.specs.declared.Book.{Book}
 use Rattle.book.specs.Calls.{Sheet, SET}
 use Rattle.book.specs.Checks.{figuresOf, inside}
 use Rattle.book.specs.Book.{tariffIn, placeOf, inForce, changed, Reachable}
 use Rattle.book.proofs.Places.{at-map}
-use Rattle.stands.specs.Stands.{MayStandAs}
+use Rattle.stands.specs.Stands.{MayOpen, MayStandAs}
 use Rattle.stands.proofs.Kept.{reachable-fits}
 use Rattle.trial.specs.Trial.{falls}
 use Rattle.trial.specs.Places.{fell}
 use Rattle.trial.proofs.InForce.{stays}
 
 module _ (s t : Sheet) (period : t .period ≡ s .period) (fields : AlikeButSplit (t .fields) (s .fields)) where
+  may-open : (p : Place) → eqb (p .kind) 2 ≡ false → MayOpen (some s) (tariffIn p) → MayOpen (some t) (tariffIn p)
+  may-open p other h =
+      ap (λ d. firstOver (benchmarksOf (t .fields) d) (tariffIn p)) period
+      ∙ first-of-sheets (t .fields) (s .fields) fields (s .period) (tariffIn p) other
+      ∙ h
+
   -- what may stand in a place under the one may stand there under the other
   may-stand : (q : State) (p : Place) → eqb (p .kind) 2 ≡ false → MayStandAs (some s) q p → MayStandAs (some t) q p
   may-stand Empty p other h = h
   may-stand Draft p other h = h
-  may-stand Open p other h = (
-    h .0,
-    ap (λ d. firstOver (benchmarksOf (t .fields) d) (tariffIn p)) period
-        ∙ first-of-sheets (t .fields) (s .fields) fields (s .period) (tariffIn p) other
-        ∙ h .1,
-  )
+  may-stand Marked p other h = (h .0, may-open p other (h .1))
+  may-stand Open p other h = (h .0, may-open p other (h .1))
 
   -- so nothing else falls, if SET accepts the sheet (and nothing at all, if it does not)
   pub only-economy-7-falls : (b : Book) → Reachable b → inForce b ≡ some s → (k : ℕ) → inside k ≡ true

@@ -25,9 +25,11 @@ fn bit_if_fell(before: Place, after: Place, bit: u64) -> u64
     match was {
         State::Empty => 0,
         State::Draft => 0,
+        State::Marked => 0,
         State::Open => match is {
             State::Empty => 0,
             State::Draft => bit,
+            State::Marked => bit,
             State::Open => 0,
         },
     }

@@ -4,6 +4,7 @@ use mathlib.Core.Path.{_≡_, refl, _∙_, ap, ap₂}
 use mathlib.Core.Bool.{Bool, true, false, cond, not}
 use mathlib.Core.List.{List, [], _∷_, map}
 use mathlib.Core.Option.{Option, none, some}
+use lib.Count.{ones}
 use Rattle.refusal.specs.declared.Check.{Check}
 use Rattle.refusal.specs.declared.Check.the-variants.{Pass}
 use Rattle.refusal.specs.Checks.{checked, need}
@@ -11,10 +12,10 @@ use Rattle.benchmark.specs.declared.Benchmarks.{Benchmarks}
 use Rattle.benchmark.specs.Benchmark.{setCheck, benchmark, wc, pc, oc, nc, paenc, headroom, panc, figure, figures, benchmarksOf}
 use Rattle.tariff.specs.declared.Tariff.{Tariff}
 use Rattle.tariff.specs.Tariff.{tariffOf, standingIn, recordCheck}
-use Rattle.verdict.specs.Cells.{Cell, offered, cellNumbers, Verdict, opens, verdict, verdictAt, firstOver}
-use Rattle.verdict.specs.Cells as cells
+use Rattle.verdict.specs.Cells.{Cell, offered, cellNumbers, cellCount, Verdict, opens, verdict, verdictAt, firstOver}
+use Rattle.verdict.specs.Cells as verdicts
 use Rattle.book.specs.declared.Book.{Book}
-use Rattle.book.specs.Calls.{Sheet, Record, Act, SET, PUT, UNDO, call, Answer, accepted, opened, refused, isAccepted, isNone}
+use Rattle.book.specs.Calls.{Sheet, Record, Act, SET, PUT, UNDO, call, Answer, accepted, cells, refused, isAccepted, isNone}
 use Rattle.book.specs.Checks.{figuresOf, complies, verdictAnswer, setAnswer, answer}
 use Rattle.history.specs.History.{readings, answersAfter}
 use Rattle.laws.specs.Notions.{every, sum, total, tabulate, tabulateFrom, bit}
@@ -49,7 +50,7 @@ told (then {a = a} e t) = rw e (ap (_∷_ a) (told t))
 -- a verdict says whether a tariff complies
 abbrev pub isOpening : Verdict → Bool
 isOpening (opens n) = true
-isOpening (cells.over c months e) = false
+isOpening (verdicts.over c months e) = false
 
 pub complying : (f : Benchmarks) (x : Tariff) → complies f x ≡ isOpening (verdict f x)
 unfolding verdict
@@ -69,12 +70,20 @@ quarter-set = passed (starred .accepted)
 pub low-put : checked refused (recordCheck low) accepted ≡ accepted
 low-put = passed (starred .records .0)
 
-pub low-opens : verdictAnswer (verdict (figuresOf quarter) (tariffOf low)) ≡ opened 28
+pub low-opens : verdictAnswer (verdict (figuresOf quarter) (tariffOf low)) ≡ cells 28
 low-opens = ap verdictAnswer (starred .verdicts .within)
+
+low-cells : cells (cellCount (tariffOf low)) ≡ cells 28
+unfolding cellCount ones
+low-cells = refl
 
 no-fields-set : setAnswer noFields ≡ refused 1
 unfolding setCheck
 no-fields-set = refl
+
+no-record : checked refused (recordCheck []) accepted ≡ refused 8
+unfolding recordCheck
+no-record = refl
 
 -- CLOSE after a SET: accepted where the tariff still opens under the new sheet, and 12 where it is a draft
 closed-if : (s : Sheet) (x : Record) (v : Verdict) → verdict (figuresOf s) (tariffOf x) ≡ v
@@ -94,10 +103,10 @@ other-set = passed (splits .accepted .1)
 pub seven-put : checked refused (recordCheck dayDear) accepted ≡ accepted
 seven-put = passed (splits .records .0)
 
-pub seven-opens : verdictAnswer (verdict (figuresOf (splitAt 579)) (tariffOf dayDear)) ≡ opened 28
+pub seven-opens : verdictAnswer (verdict (figuresOf (splitAt 579)) (tariffOf dayDear)) ≡ cells 28
 seven-opens = ap verdictAnswer (splits .verdicts .at-579)
 
-pub low-opens-too : verdictAnswer (verdict (figuresOf (splitAt 579)) (tariffOf low)) ≡ opened 28
+pub low-opens-too : verdictAnswer (verdict (figuresOf (splitAt 579)) (tariffOf low)) ≡ cells 28
 low-opens-too = ap verdictAnswer (splits .verdicts .flat-within)
 
 -- the book after two calls, and its QUOTE
@@ -123,7 +132,7 @@ back-to-fresh = ap (λ c. bookAfter (after (checked refused c accepted) fresh (S
 pub dear-put : checked refused (recordCheck dearIn5) accepted ≡ accepted
 dear-put = passed (regional .records .2)
 
-pub dear-opens : verdictAnswer (verdict (figuresOf quarter) (tariffOf dearIn5)) ≡ opened 28
+pub dear-opens : verdictAnswer (verdict (figuresOf quarter) (tariffOf dearIn5)) ≡ cells 28
 dear-opens = ap verdictAnswer (regional .verdicts .within-in-5)
 
 -- THE LISTS
@@ -187,6 +196,54 @@ worked =
           (then low-put
           (then refl
           (then quarter-set (then low-opens (then refl (then low-put (then quarter-set (then refl (then refl ended))))))))));
+      confirmed =
+          told
+          (then quarter-set
+          (then low-put
+          (then refl
+          (then low-opens
+          (then low-opens (then refl (then low-cells (then refl (then refl (then refl (then refl ended)))))))))));
+      sheet-between =
+          told
+          (then quarter-set
+          (then (passed close-record)
+          (then low-put
+          (then (ap verdictAnswer (starred .verdicts .just-within))
+          (then low-opens
+          (then (passed october-accepted)
+          (then refl
+          (then refl
+          (then (ap verdictAnswer october-close)
+          (then (ap verdictAnswer october-low) (then low-cells (then refl ended))))))))))));
+      mark-back = told (then quarter-set (then low-put (then low-opens (then (passed october-accepted) (then refl (then low-cells ended))))));
+      mark-stays =
+          told
+          (then quarter-set
+          (then low-put
+          (then quarter-set (then low-opens (then no-fields-set (then no-record (then refl (then low-cells (then refl ended)))))))));
+      mark-goes =
+          told
+          (then quarter-set
+          (then low-put
+          (then low-put
+          (then low-opens
+          (then low-opens
+          (then low-put
+          (then refl
+          (then low-opens
+          (then refl
+          (then refl
+          (then low-put
+          (then refl
+          (then low-opens (then low-opens (then refl (then refl (then low-cells ended)))))))))))))))));
+      asked =
+          told
+          (then refl
+          (then refl
+          (then (passed high-record)
+          (then refl
+          (then quarter-set
+          (then (ap verdictAnswer (starred .verdicts .just-over)) (then refl (then refl (then refl ended)))))))));
       again = told (then quarter-set (then low-put (then low-opens (then refl (then low-opens ended)))));
       refused-between = told (then quarter-set (then low-put (then low-opens (then no-fields-set (then refl ended)))));
       codes = told (then refl (then refl (then refl (then refl ended))));

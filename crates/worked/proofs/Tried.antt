@@ -16,7 +16,7 @@ use Rattle.verdict.specs.Cells.{Verdict, verdict}
 use Rattle.book.specs.declared.State.the-variants.{Open}
 use Rattle.book.specs.declared.Place.{Place}
 use Rattle.book.specs.declared.Book.{Book}
-use Rattle.book.specs.Calls.{Sheet, Act, SET, PUT, OPEN, CLOSE, call, Answer, accepted, opened, isAccepted}
+use Rattle.book.specs.Calls.{Sheet, Act, SET, PUT, OPEN, CLOSE, call, Answer, accepted, cells, isAccepted}
 use Rattle.book.specs.Checks.{figuresOf, verdictAnswer, answer}
 use Rattle.book.specs.Book.{empty, placeWith, fresh, bookReadings, openIf, under, changed, step, bookAfter}
 use Rattle.book.proofs.Steps.{made}
@@ -45,7 +45,7 @@ unfolding bookAfter
 makes ended = refl
 makes (then {b} {d} {a} {acts} x e q m) = ap (λ c. bookAfter c (map call acts)) (made b (call a) x e q) ∙ makes m
 
-close-opens : verdictAnswer (verdict (figuresOf quarter) (tariffOf close)) ≡ opened 28
+close-opens : verdictAnswer (verdict (figuresOf quarter) (tariffOf close)) ≡ cells 28
 close-opens = ap verdictAnswer (starred .verdicts .just-within)
 
 -- the five calls before each trial
@@ -55,25 +55,25 @@ twoOpened = changed (changed (changed (changed (changed fresh (SET quarter)) (PU
 five-then : {acts : List Act} {d : Book} → Makes twoOpened acts d → Makes fresh (SET quarter ∷ PUT 1 close ∷ PUT 2 low ∷ OPEN 1 ∷ OPEN 2 ∷ acts) d
 five-then m =
     then accepted quarter-set refl
-    (then accepted (passed close-record) refl (then accepted low-put refl (then (opened 28) close-opens refl (then (opened 28) low-opens refl m))))
+    (then accepted (passed close-record) refl (then accepted low-put refl (then (cells 28) close-opens refl (then (cells 28) low-opens refl m))))
 
 two-left : twoOpen ≡ twoOpened
 two-left = makes (five-then ended)
 
 three-left : threeOpen ≡ changed (changed twoOpened (PUT 32 close)) (OPEN 32)
-three-left = makes (five-then (then accepted (passed close-record) refl (then (opened 28) close-opens refl ended)))
+three-left = makes (five-then (then accepted (passed close-record) refl (then (cells 28) close-opens refl ended)))
 
 other-left : otherSplit ≡ changed (changed (changed (changed (changed fresh (SET (splitAt 579))) (PUT 1 dayDear)) (PUT 2 low)) (OPEN 1)) (OPEN 2)
 other-left =
     makes
     (then accepted other-set refl
-    (then accepted seven-put refl (then accepted low-put refl (then (opened 28) seven-opens refl (then (opened 28) low-opens-too refl ended)))))
+    (then accepted seven-put refl (then accepted low-put refl (then (cells 28) seven-opens refl (then (cells 28) low-opens-too refl ended)))))
 
 dear-left : dearOpen ≡ changed (changed (changed (changed (changed fresh (SET quarter)) (PUT 1 dearIn5)) (PUT 2 low)) (OPEN 1)) (OPEN 2)
 dear-left =
     makes
     (then accepted quarter-set refl
-    (then accepted dear-put refl (then accepted low-put refl (then (opened 28) dear-opens refl (then (opened 28) low-opens refl ended)))))
+    (then accepted dear-put refl (then accepted low-put refl (then (cells 28) dear-opens refl (then (cells 28) low-opens refl ended)))))
 
 closed-left : oneClosed ≡ changed twoOpened (CLOSE 1)
 closed-left = makes (five-then (then accepted refl refl ended))

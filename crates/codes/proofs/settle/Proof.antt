@@ -11,8 +11,8 @@ use Rattle.codes.proofs.settle.Tie as tie
 enum-told : tie.Need-enum-told
 enum-told c = search needs
 
-open-at-requires : tie.Need-open-at-requires
-open-at-requires c κs =
+open-as-requires : tie.Need-open-as-requires
+open-as-requires c κs =
     let st = c .before .before in
     subst (λ (a : CodeAct). Judgeable a (st .args .p) (st .args .loaded) (st .args .figures)) (c .enum-told .given .1) (st .pre)
 
@@ -28,11 +28,25 @@ enum-told-3 c = search needs
 drop-at-requires : tie.Need-drop-at-requires
 drop-at-requires c κs = search needs
 
+enum-told-4 : tie.Need-enum-told-4
+enum-told-4 c = search needs
+
+open-as-requires-2 : tie.Need-open-as-requires-2
+open-as-requires-2 c κs =
+    let st = c .before .before in
+    subst (λ (a : CodeAct). Judgeable a (st .args .p) (st .args .loaded) (st .args .figures)) (c .enum-told4 .given .1) (st .pre)
+
+enum-told-5 : tie.Need-enum-told-5
+enum-told-5 c = search needs
+
+confirm-at-requires : tie.Need-confirm-at-requires
+confirm-at-requires c κs = search needs
+
 returns : tie.Need-returns
 returns c =
     let a = c .before .before .before .args in
-    let s = subst (λ (b : CodeAct). SettlesOn b (a .code) (a .p) (a .loaded) (a .figures) (c .open-at .result)) (sym (c .before .enum-told .given .1)) (c .open-at .ensures) in
-    (s, λ b i h. acts h (a .act) (c .open-at .result) s)
+    let s = subst (λ (b : CodeAct). SettlesOn b (a .code) (a .p) (a .loaded) (a .figures) (c .open-as .result)) (sym (c .before .enum-told .given .1)) (c .open-as .ensures) in
+    (s, λ b i h. acts h (a .act) (c .open-as .result) s)
 
 returns-2 : tie.Need-returns-2
 returns-2 c =
@@ -46,16 +60,34 @@ returns-3 c =
     let s = subst (λ (b : CodeAct). SettlesOn b (a .code) (a .p) (a .loaded) (a .figures) (c .drop-at .result)) (sym (c .before .enum-told3 .given .1)) (c .drop-at .ensures) in
     (s, λ b i h. acts h (a .act) (c .drop-at .result) s)
 
+returns-4 : tie.Need-returns-4
+returns-4 c =
+    let a = c .before .before .before .args in
+    let s = subst (λ (b : CodeAct). SettlesOn b (a .code) (a .p) (a .loaded) (a .figures) (c .open-as2 .result)) (sym (c .before .enum-told4 .given .1)) (c .open-as2 .ensures) in
+    (s, λ b i h. acts h (a .act) (c .open-as2 .result) s)
+
+returns-5 : tie.Need-returns-5
+returns-5 c =
+    let a = c .before .before .before .args in
+    let s = subst (λ (b : CodeAct). SettlesOn b (a .code) (a .p) (a .loaded) (a .figures) (c .confirm-at .result)) (sym (c .before .enum-told5 .given .1)) (c .confirm-at .ensures) in
+    (s, λ b i h. acts h (a .act) (c .confirm-at .result) s)
+
 pub settle-spec : {M : Type 1} → statement M
 settle-spec =
     tie.close
     (tie.spec
     enum-told
-    open-at-requires
+    open-as-requires
     enum-told-2
     close-at-requires
     enum-told-3
     drop-at-requires
+    enum-told-4
+    open-as-requires-2
+    enum-told-5
+    confirm-at-requires
     returns
     returns-2
-    returns-3)
+    returns-3
+    returns-4
+    returns-5)

@@ -6,7 +6,7 @@ use native.Mathlib.Omega.{arith}
 use lib.ListN.{length}
 use borrow.Author.Needs.{needs}
 use Rattle.lines.proofs.Parts.{rest}
-use Rattle.codes.specs.declared.CodeAct.the-variants.{Open}
+use Rattle.codes.specs.declared.CodeAct.the-variants.{Open, Ask}
 use Rattle.codes.proofs.Places.{may-judge}
 use Rattle.protocol.proofs.settled.Statement.{statement}
 use Rattle.protocol.proofs.settled.Tie as tie
@@ -22,6 +22,12 @@ close-count c = rw (c .enum-told3 .given .1) at (c .before .before .before .pre 
 
 drop-count : (c : tie.After-enum-told4) → length (c .before .before .before .args .numbers .now) ≡ 1
 drop-count c = rw (c .enum-told4 .given .1) at (c .before .before .before .pre .1)
+
+ask-count : (c : tie.After-enum-told5) → length (c .before .before .before .args .numbers .now) ≡ 1
+ask-count c = rw (c .enum-told5 .given .1) at (c .before .before .before .pre .1)
+
+confirm-count : (c : tie.After-enum-told6) → length (c .before .before .before .args .numbers .now) ≡ 1
+confirm-count c = rw (c .enum-told6 .given .1) at (c .before .before .before .pre .1)
 
 enum-told : tie.Need-enum-told
 enum-told c = search needs
@@ -68,6 +74,24 @@ shared-slice-read-settle-3 c = omega (arith, drop-count (c .before))
 settle-requires-3 : tie.Need-settle-requires-3
 settle-requires-3 c κs = search needs
 
+enum-told-5 : tie.Need-enum-told-5
+enum-told-5 c = search needs
+
+shared-slice-read-settle-4 : tie.Need-shared-slice-read-settle-4
+shared-slice-read-settle-4 c = omega (arith, ask-count (c .before))
+
+settle-requires-4 : tie.Need-settle-requires-4
+settle-requires-4 c κs = may-judge (c .before .before .before .before .pre .0 .2) Ask
+
+enum-told-6 : tie.Need-enum-told-6
+enum-told-6 c = search needs
+
+shared-slice-read-settle-5 : tie.Need-shared-slice-read-settle-5
+shared-slice-read-settle-5 c = omega (arith, confirm-count (c .before))
+
+settle-requires-5 : tie.Need-settle-requires-5
+settle-requires-5 c κs = search needs
+
 returns : tie.Need-returns
 returns c b i h = rw (c .before .before .before .enum-told .given .1) (rw rest at (c .put-at .ensures .1 b i _ _ h))
 
@@ -79,6 +103,12 @@ returns-3 c b i h = rw (c .before .before .enum-told3 .given .1) (c .settle2 .en
 
 returns-4 : tie.Need-returns-4
 returns-4 c b i h = rw (c .before .before .enum-told4 .given .1) (c .settle3 .ensures .1 b i h)
+
+returns-5 : tie.Need-returns-5
+returns-5 c b i h = rw (c .before .before .enum-told5 .given .1) (c .settle4 .ensures .1 b i h)
+
+returns-6 : tie.Need-returns-6
+returns-6 c b i h = rw (c .before .before .enum-told6 .given .1) (c .settle5 .ensures .1 b i h)
 
 pub settled-spec : {M : Type 1} → statement M
 settled-spec =
@@ -99,7 +129,15 @@ settled-spec =
     enum-told-4
     shared-slice-read-settle-3
     settle-requires-3
+    enum-told-5
+    shared-slice-read-settle-4
+    settle-requires-4
+    enum-told-6
+    shared-slice-read-settle-5
+    settle-requires-5
     returns
     returns-2
     returns-3
-    returns-4)
+    returns-4
+    returns-5
+    returns-6)

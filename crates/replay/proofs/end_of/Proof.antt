@@ -37,16 +37,16 @@ returns-2 : tie.Need-returns-2
 returns-2 c = (ap (_+_ 3) (c .number-at2 .ensures) ∙ sym (put-end (c .before .before .before .before .before .args .calls .now) (c .before .if2 .taken)), omega arith)
 
 returns-3 : tie.Need-returns-3
-returns-3 c = (rw (ne-eqb _ 0 (c .before .before .if1 .left), ne-eqb _ 1 (c .before .if2 .left), le-leb _ 4 (c .if3 .taken)), omega arith)
+returns-3 c = (rw (c .if3 .taken), omega arith)
 
 returns-4 : tie.Need-returns-4
-returns-4 c = (rw (c .if4 .taken), omega arith)
+returns-4 c = (rw (ne-eqb _ 0 (c .before .before .before .if1 .left), ne-eqb _ 1 (c .before .before .if2 .left), ne-eqb _ 5 (c .before .if3 .left), le-leb _ 7 (c .if4 .taken)), omega arith)
 
 add-result-3 : tie.Need-add-result-3
 add-result-3 c = search needs
 
 returns-5 : tie.Need-returns-5
-returns-5 c = (rw (ne-eqb _ 0 (c .before .before .before .if1 .left), ne-eqb _ 1 (c .before .before .if2 .left), lt-leb _ 4 (c .before .if3 .left), ne-eqb _ 5 (c .if4 .left)), omega arith)
+returns-5 c = (rw (ne-eqb _ 0 (c .before .before .before .if1 .left), ne-eqb _ 1 (c .before .before .if2 .left), ne-eqb _ 5 (c .before .if3 .left), lt-leb _ 7 (c .if4 .left)), omega arith)
 
 pub end-of-spec : {M : Type 1} → statement M
 end-of-spec =

@@ -43,9 +43,6 @@ enum-told-6 c = search needs
 formed-requires-6 : tie.Need-formed-requires-6
 formed-requires-6 c κs = search needs
 
-enum-known-word-2 : tie.Need-enum-known-word-2
-enum-known-word-2 c = search needs
-
 enum-told-7 : tie.Need-enum-told-7
 enum-told-7 c = search needs
 
@@ -58,6 +55,9 @@ enum-told-8 c = search needs
 formed-requires-8 : tie.Need-formed-requires-8
 formed-requires-8 c κs = search needs
 
+enum-known-word-2 : tie.Need-enum-known-word-2
+enum-known-word-2 c = search needs
+
 enum-told-9 : tie.Need-enum-told-9
 enum-told-9 c = search needs
 
@@ -69,6 +69,18 @@ enum-told-10 c = search needs
 
 formed-requires-10 : tie.Need-formed-requires-10
 formed-requires-10 c κs = search needs
+
+enum-told-11 : tie.Need-enum-told-11
+enum-told-11 c = search needs
+
+formed-requires-11 : tie.Need-formed-requires-11
+formed-requires-11 c κs = search needs
+
+enum-told-12 : tie.Need-enum-told-12
+enum-told-12 c = search needs
+
+formed-requires-12 : tie.Need-formed-requires-12
+formed-requires-12 c κs = search needs
 
 returns : tie.Need-returns
 returns c = rw (c .before .before .before .enum-told .given .1) (c .formed .ensures)
@@ -89,16 +101,22 @@ returns-6 : tie.Need-returns-6
 returns-6 c = rw (c .before .before .before .before .before .before .word .given .1, c .before .before .before .enum-told6 .given .1) (c .formed6 .ensures)
 
 returns-7 : tie.Need-returns-7
-returns-7 c = rw (c .before .before .before .before .before .before .word2 .given .1, c .before .before .before .enum-told7 .given .1) (c .formed7 .ensures)
+returns-7 c = rw (c .before .before .before .before .before .before .word .given .1, c .before .before .before .enum-told7 .given .1) (c .formed7 .ensures)
 
 returns-8 : tie.Need-returns-8
-returns-8 c = rw (c .before .before .before .before .before .before .word2 .given .1, c .before .before .before .enum-told8 .given .1) (c .formed8 .ensures)
+returns-8 c = rw (c .before .before .before .before .before .before .word .given .1, c .before .before .before .enum-told8 .given .1) (c .formed8 .ensures)
 
 returns-9 : tie.Need-returns-9
 returns-9 c = rw (c .before .before .before .before .before .before .word2 .given .1, c .before .before .before .enum-told9 .given .1) (c .formed9 .ensures)
 
 returns-10 : tie.Need-returns-10
 returns-10 c = rw (c .before .before .before .before .before .before .word2 .given .1, c .before .before .before .enum-told10 .given .1) (c .formed10 .ensures)
+
+returns-11 : tie.Need-returns-11
+returns-11 c = rw (c .before .before .before .before .before .before .word2 .given .1, c .before .before .before .enum-told11 .given .1) (c .formed11 .ensures)
+
+returns-12 : tie.Need-returns-12
+returns-12 c = rw (c .before .before .before .before .before .before .word2 .given .1, c .before .before .before .enum-told12 .given .1) (c .formed12 .ensures)
 
 pub form-of-spec : {M : Type 1} → statement M
 form-of-spec =
@@ -117,15 +135,19 @@ form-of-spec =
     formed-requires-5
     enum-told-6
     formed-requires-6
-    enum-known-word-2
     enum-told-7
     formed-requires-7
     enum-told-8
     formed-requires-8
+    enum-known-word-2
     enum-told-9
     formed-requires-9
     enum-told-10
     formed-requires-10
+    enum-told-11
+    formed-requires-11
+    enum-told-12
+    formed-requires-12
     returns
     returns-2
     returns-3
@@ -135,4 +157,6 @@ form-of-spec =
     returns-7
     returns-8
     returns-9
-    returns-10)
+    returns-10
+    returns-11
+    returns-12)

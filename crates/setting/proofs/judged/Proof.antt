@@ -8,7 +8,7 @@ use Rattle.book.specs.Book.{tariffIn}
 use Rattle.tariff.specs.Tariff.{validTariff}
 use Rattle.verdict.specs.Cells.{firstOver}
 use Rattle.stands.specs.Stands.{HoldsValidAs}
-use Rattle.setting.proofs.Under.{empty-kept, draft-kept, open-judged, open-kept}
+use Rattle.setting.proofs.Under.{empty-kept, draft-kept, mark-cleared, open-judged, open-kept}
 use borrow.Author.Needs.{needs}
 use Rattle.setting.proofs.judged.Statement.{statement}
 use Rattle.setting.proofs.judged.Tie as tie
@@ -22,23 +22,29 @@ enum-told-2 c = search needs
 enum-told-3 : tie.Need-enum-told-3
 enum-told-3 c = search needs
 
+in-state-requires : tie.Need-in-state-requires
+in-state-requires c κs = search needs
+
+enum-told-4 : tie.Need-enum-told-4
+enum-told-4 c = search needs
+
 tariff-in-requires : tie.Need-tariff-in-requires
 tariff-in-requires c κs = search needs
 
 first-over-requires : tie.Need-first-over-requires
 first-over-requires c κs =
     let st = c .before .before .before in
-    let valid = subst (λ (q : State). HoldsValidAs q (tariffIn (st .args .p))) (c .before .enum-told3 .given .1) (st .pre .1) in
+    let valid = subst (λ (q : State). HoldsValidAs q (tariffIn (st .args .p))) (c .before .enum-told4 .given .1) (st .pre .1) in
     (st .pre .0, ap validTariff (c .tariff-in .ensures) ∙ valid)
-
-enum-told-4 : tie.Need-enum-told-4
-enum-told-4 c = search needs
 
 enum-told-5 : tie.Need-enum-told-5
 enum-told-5 c = search needs
 
-in-state-requires : tie.Need-in-state-requires
-in-state-requires c κs = search needs
+enum-told-6 : tie.Need-enum-told-6
+enum-told-6 c = search needs
+
+in-state-requires-2 : tie.Need-in-state-requires-2
+in-state-requires-2 c κs = search needs
 
 returns : tie.Need-returns
 returns c = empty-kept (c .before .before .args .figures) (c .before .before .args .p) (c .enum-told .given .1)
@@ -48,20 +54,25 @@ returns-2 c = draft-kept (c .before .before .args .figures) (c .before .before .
 
 returns-3 : tie.Need-returns-3
 returns-3 c =
-    let t = c .before .before .before in
-    let st = t .before .before .before in
-    open-kept (st .args .figures) (st .args .p) (t .before .enum-told3 .given .1)
-    (ap (firstOver (st .args .figures)) (sym (t .tariff-in .ensures))
-    ∙ subst (Finds (st .args .figures) (t .tariff-in .result)) (c .enum-told4 .given .1) (c .before .before .first-over .ensures))
+    let st = c .before .before .before in
+    c .in-state .ensures ∙ mark-cleared (st .args .figures) (st .args .p) (c .before .enum-told3 .given .1)
 
 returns-4 : tie.Need-returns-4
 returns-4 c =
+    let t = c .before .before .before in
+    let st = t .before .before .before in
+    open-kept (st .args .figures) (st .args .p) (t .before .enum-told4 .given .1)
+    (ap (firstOver (st .args .figures)) (sym (t .tariff-in .ensures))
+    ∙ subst (Finds (st .args .figures) (t .tariff-in .result)) (c .enum-told5 .given .1) (c .before .before .first-over .ensures))
+
+returns-5 : tie.Need-returns-5
+returns-5 c =
     let t = c .before .before .before .before in
     let st = t .before .before .before in
-    c .in-state .ensures
-    ∙ open-judged (st .args .figures) (st .args .p) (t .before .enum-told3 .given .1) (some _)
+    c .in-state2 .ensures
+    ∙ open-judged (st .args .figures) (st .args .p) (t .before .enum-told4 .given .1) (some _)
     (ap (firstOver (st .args .figures)) (sym (t .tariff-in .ensures))
-    ∙ subst (Finds (st .args .figures) (t .tariff-in .result)) (c .before .enum-told5 .given .1) (c .before .before .before .first-over .ensures))
+    ∙ subst (Finds (st .args .figures) (t .tariff-in .result)) (c .before .enum-told6 .given .1) (c .before .before .before .first-over .ensures))
 
 pub judged-spec : {M : Type 1} → statement M
 judged-spec =
@@ -70,12 +81,15 @@ judged-spec =
     enum-told
     enum-told-2
     enum-told-3
+    in-state-requires
+    enum-told-4
     tariff-in-requires
     first-over-requires
-    enum-told-4
     enum-told-5
-    in-state-requires
+    enum-told-6
+    in-state-requires-2
     returns
     returns-2
     returns-3
-    returns-4)
+    returns-4
+    returns-5)

@@ -22,6 +22,12 @@ enum-told-5 c = search needs
 enum-told-6 : tie.Need-enum-told-6
 enum-told-6 c = search needs
 
+enum-told-7 : tie.Need-enum-told-7
+enum-told-7 c = search needs
+
+enum-told-8 : tie.Need-enum-told-8
+enum-told-8 c = search needs
+
 returns : tie.Need-returns
 returns c = rw (c .enum-told .given .1)
 
@@ -29,15 +35,36 @@ returns-2 : tie.Need-returns-2
 returns-2 c = rw (c .enum-told2 .given .1)
 
 returns-3 : tie.Need-returns-3
-returns-3 c = rw (c .before .before .enum-told3 .given .1, c .enum-told4 .given .1)
+returns-3 c = rw (c .enum-told3 .given .1)
 
 returns-4 : tie.Need-returns-4
-returns-4 c = rw (c .before .before .enum-told3 .given .1, c .enum-told5 .given .1)
+returns-4 c = rw (c .before .before .enum-told4 .given .1, c .enum-told5 .given .1)
 
 returns-5 : tie.Need-returns-5
-returns-5 c = rw (c .before .before .enum-told3 .given .1, c .enum-told6 .given .1)
+returns-5 c = rw (c .before .before .enum-told4 .given .1, c .enum-told6 .given .1)
+
+returns-6 : tie.Need-returns-6
+returns-6 c = rw (c .before .before .enum-told4 .given .1, c .enum-told7 .given .1)
+
+returns-7 : tie.Need-returns-7
+returns-7 c = rw (c .before .before .enum-told4 .given .1, c .enum-told8 .given .1)
 
 pub bit-if-fell-spec : {M : Type 1} → statement M
 bit-if-fell-spec =
     tie.close
-    (tie.spec enum-told enum-told-2 enum-told-3 enum-told-4 enum-told-5 enum-told-6 returns returns-2 returns-3 returns-4 returns-5)
+    (tie.spec
+    enum-told
+    enum-told-2
+    enum-told-3
+    enum-told-4
+    enum-told-5
+    enum-told-6
+    enum-told-7
+    enum-told-8
+    returns
+    returns-2
+    returns-3
+    returns-4
+    returns-5
+    returns-6
+    returns-7)

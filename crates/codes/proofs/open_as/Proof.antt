@@ -1,5 +1,5 @@
--- `codes::open_at` meets its contract: its checks come first; past them the place holds a valid draft and the figures are lawful, so the
--- walk's ruling is the verdict, handed on with the place opened or with 11 and its months.
+-- `codes::open_as` meets its contract: its checks come first; past them the place holds a valid draft and the figures are lawful, so the
+-- walk's ruling is the verdict, handed on with the draft in its new state or with 11 and its months.
 -- Assumes nothing.
 use mathlib.Core.Path.{_≡_, refl, sym, _∙_, ap, ap₂}
 use mathlib.Core.Bool.{true}
@@ -12,16 +12,15 @@ use Rattle.book.specs.Checks.{verdictAnswer}
 use Rattle.book.specs.Book.{tariffIn}
 use Rattle.book.specs.Settling.{heldCheck}
 use Rattle.laws.proofs.Lists.{noughts}
-use Rattle.codes.specs.declared.CodeAct.the-variants as act
-use Rattle.codes.specs.Codes.{restOn}
+use Rattle.codes.specs.Codes.{openRest}
 use Rattle.codes.proofs.Answers.{refused-by, passed-by, open-passed}
 use borrow.Author.Needs.{needs}
-use Rattle.codes.proofs.open_at.Statement.{statement}
-use Rattle.codes.proofs.open_at.Tie as tie
+use Rattle.codes.proofs.open_as.Statement.{statement}
+use Rattle.codes.proofs.open_as.Tie as tie
 
 -- the checks, one after the other
 checks : (c : tie.After-held-check) → let a = c .before .before .before .before .args in
-    c .held-check .result ≡ heldCheck (a .code) (a .p .state) (restOn act.Open (a .p .state) (a .loaded))
+    c .held-check .result ≡ heldCheck (a .code) (a .p .state) (openRest (a .p .state) (a .loaded))
 checks c =
     let a = c .before .before .before .before .args in
     c .held-check .ensures
@@ -104,8 +103,8 @@ returns-3 c =
     (ruled v ∙ ap (λ q. verdictAnswer (verdictOf q (take (a .figures .months) (v .verdict-of .result .months)))) (o .outcome2 .given .1))
     refl refl (v .verdict-of .ensures .rest)
 
-pub open-at-spec : {M : Type 1} → statement M
-open-at-spec =
+pub open-as-spec : {M : Type 1} → statement M
+open-as-spec =
     tie.close
     (tie.spec
     open-check-requires

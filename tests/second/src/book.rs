@@ -26,6 +26,7 @@ pub enum Refusal {
     Argument = 13,
     OcBelowZero = 14,
     NothingToUndo = 15,
+    NotMarked = 16,
 }
 
 impl Refusal {
@@ -47,7 +48,7 @@ impl From<SheetError> for Refusal {
     }
 }
 
-/// Why a tariff was not opened.
+/// Why a tariff was not opened, or its draft not marked.
 #[derive(Clone, Copy, Debug, PartialEq, Eq)]
 pub enum NotOpened {
     Refused(Refusal),
@@ -92,7 +93,7 @@ pub enum State {
     Open,
 }
 
-#[derive(Clone, Copy, Debug)]
+#[derive(Clone, Copy, Debug, PartialEq, Eq)]
 enum Place {
     Empty,
     Draft(Tariff),
@@ -100,19 +101,23 @@ enum Place {
 }
 
 /// How to take back a SET.
-#[derive(Clone, Debug)]
+#[derive(Clone, Debug, PartialEq, Eq)]
 struct Step {
     /// The sheet before it, or none.
     sheet: Option<Sheet>,
     /// The places whose open tariffs it made drafts, bit code - 1 for each.
     fallen: u32,
+    /// The marks that it cleared, likewise.
+    marks: u32,
 }
 
-#[derive(Clone, Debug)]
+#[derive(Clone, Debug, PartialEq, Eq)]
 pub struct Book {
     sheet: Option<Sheet>,
     places: [Place; PLACES],
-    /// How to take back the last SET, until a call is accepted that changes a place.
+    /// The places whose drafts are marked, bit code - 1 for each.
+    marks: u32,
+    /// How to take back the last SET, until a call is accepted that changes a place or marks it.
     step: Option<Step>,
 }
 
@@ -128,11 +133,13 @@ impl Book {
         Book {
             sheet: None,
             places: [Place::Empty; PLACES],
+            marks: 0,
             step: None,
         }
     }
 
-    /// Replaces the sheet; open tariffs that exceed under it become drafts.
+    /// Replaces the sheet; open tariffs that exceed under it become drafts, and no draft is marked
+    /// any more.
     pub fn set(&mut self, year: u32, month: u32, t: u32, fields: &[u32]) -> Result<(), Refusal> {
         let sheet = Sheet::new(year, month, t, fields)?;
         let mut fallen = 0;
@@ -147,16 +154,22 @@ impl Book {
         self.step = Some(Step {
             sheet: self.sheet.replace(sheet),
             fallen,
+            marks: std::mem::take(&mut self.marks),
         });
         Ok(())
     }
 
-    /// Takes back the last SET, if no place has been changed since: the sheet before it, or none,
-    /// is in force again, and what it made drafts is open. One SET can be taken back, and not
-    /// the one before it.
+    /// Takes back the last SET, if no place has been changed or marked since: the sheet before it,
+    /// or none, is in force again, what it made drafts is open, and the marks that it cleared are
+    /// there. One SET can be taken back, and not the one before it.
     pub fn undo(&mut self) -> Result<(), Refusal> {
-        let Step { sheet, fallen } = self.step.take().ok_or(Refusal::NothingToUndo)?;
-        self.sheet = sheet;
+        let step = self.step.take().ok_or(Refusal::NothingToUndo)?;
+        let Step {
+            sheet,
+            fallen,
+            marks,
+        } = step;
+        (self.sheet, self.marks) = (sheet, marks);
         for (index, place) in self.places.iter_mut().enumerate() {
             if let Place::Draft(tariff) = place {
                 if fallen >> index & 1 == 1 {
@@ -182,43 +195,52 @@ impl Book {
         Ok(fallen)
     }
 
-    /// Puts a tariff record into a place as a draft, over any draft.
+    /// Puts a tariff record into a place as a draft without a mark, over any draft.
     pub fn put(&mut self, code: u32, numbers: &[u32]) -> Result<(), Refusal> {
-        let place = self.place_mut(code)?;
-        if let Place::Open(_) = place {
+        let index = index(code)?;
+        if let Place::Open(_) = self.places[index] {
             return Err(Refusal::PlaceOpen);
         }
-        *place = Place::Draft(Tariff::new(numbers).ok_or(Refusal::Record)?);
-        self.step = None;
+        let tariff = Tariff::new(numbers).ok_or(Refusal::Record)?;
+        self.change(index, Place::Draft(tariff));
         Ok(())
     }
 
     /// Opens a draft that is within the cap in all its cells, and gives their number.
     pub fn open(&mut self, code: u32) -> Result<u32, NotOpened> {
-        let index = index(code)?;
-        let tariff = match self.places[index] {
-            Place::Empty => return Err(Refusal::PlaceEmpty.into()),
-            Place::Open(_) => return Err(Refusal::PlaceOpen.into()),
-            Place::Draft(tariff) => tariff,
-        };
-        let sheet = self.sheet.as_ref().ok_or(Refusal::NoSheet)?;
-        if let Some(breach) = sheet.first_breach(&tariff) {
-            return Err(NotOpened::OverCap(breach));
-        }
-        self.places[index] = Place::Open(tariff);
-        self.step = None;
+        let (index, &tariff) = self.draft_within_the_cap(code)?;
+        self.change(index, Place::Open(tariff));
         Ok(tariff.cells())
     }
 
-    /// Makes an open tariff a draft again.
+    /// Marks a draft that OPEN would open, marked or not, and gives the number of its cells.
+    pub fn ask(&mut self, code: u32) -> Result<u32, NotOpened> {
+        let (index, tariff) = self.draft_within_the_cap(code)?;
+        let cells = tariff.cells();
+        self.marks |= 1 << index;
+        self.step = None;
+        Ok(cells)
+    }
+
+    /// Opens a marked draft, and gives the number of its cells. The cap needs no second look: the
+    /// sheet is the one that the draft was marked under.
+    pub fn confirm(&mut self, code: u32) -> Result<u32, Refusal> {
+        let (index, &tariff) = self.draft(code)?;
+        if self.marks >> index & 1 == 0 {
+            return Err(Refusal::NotMarked);
+        }
+        self.change(index, Place::Open(tariff));
+        Ok(tariff.cells())
+    }
+
+    /// Makes an open tariff a draft again, without a mark.
     pub fn close(&mut self, code: u32) -> Result<(), Refusal> {
-        let place = self.place_mut(code)?;
-        match *place {
+        let index = index(code)?;
+        match self.places[index] {
             Place::Empty => Err(Refusal::PlaceEmpty),
             Place::Draft(_) => Err(Refusal::NotOpen),
             Place::Open(tariff) => {
-                *place = Place::Draft(tariff);
-                self.step = None;
+                self.change(index, Place::Draft(tariff));
                 Ok(())
             }
         }
@@ -226,16 +248,9 @@ impl Book {
 
     /// Empties a place that holds a draft.
     pub fn drop_code(&mut self, code: u32) -> Result<(), Refusal> {
-        let place = self.place_mut(code)?;
-        match place {
-            Place::Empty => Err(Refusal::PlaceEmpty),
-            Place::Open(_) => Err(Refusal::PlaceOpen),
-            Place::Draft(_) => {
-                *place = Place::Empty;
-                self.step = None;
-                Ok(())
-            }
-        }
+        let (index, _) = self.draft(code)?;
+        self.change(index, Place::Empty);
+        Ok(())
     }
 
     /// The Benchmark Maximum Charge in mills; level 0 is nil, 1 is m.
@@ -322,13 +337,41 @@ impl Book {
         })
     }
 
+    /// Whether the place of a code holds a marked draft.
+    pub fn is_marked(&self, code: u32) -> bool {
+        index(code).is_ok_and(|index| self.marks >> index & 1 == 1)
+    }
+
     /// The months t of the sheet's period, if there is a sheet.
     pub fn t(&self) -> Option<u32> {
         self.sheet.as_ref().map(|sheet| sheet.t)
     }
 
-    fn place_mut(&mut self, code: u32) -> Result<&mut Place, Refusal> {
-        Ok(&mut self.places[index(code)?])
+    /// The draft of a code: refusals 6, 9 and 7.
+    fn draft(&self, code: u32) -> Result<(usize, &Tariff), Refusal> {
+        let index = index(code)?;
+        match &self.places[index] {
+            Place::Empty => Err(Refusal::PlaceEmpty),
+            Place::Open(_) => Err(Refusal::PlaceOpen),
+            Place::Draft(tariff) => Ok((index, tariff)),
+        }
+    }
+
+    /// The same with all the checks of OPEN, and so 10 and 11 after them.
+    fn draft_within_the_cap(&self, code: u32) -> Result<(usize, &Tariff), NotOpened> {
+        let (index, tariff) = self.draft(code)?;
+        let sheet = self.sheet.as_ref().ok_or(Refusal::NoSheet)?;
+        match sheet.first_breach(tariff) {
+            Some(breach) => Err(NotOpened::OverCap(breach)),
+            None => Ok((index, tariff)),
+        }
+    }
+
+    /// A place holds something else from now on, which has no mark. The last SET is there to stay.
+    fn change(&mut self, index: usize, place: Place) {
+        self.places[index] = place;
+        self.marks &= !(1 << index);
+        self.step = None;
     }
 }
 

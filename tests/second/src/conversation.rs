@@ -31,7 +31,7 @@ const SILENT: [&[u8]; 8] = [
 ];
 
 /// Lines that have an answer whatever the book holds.
-const ANSWERED: [&[u8]; 12] = [
+const ANSWERED: [&[u8]; 16] = [
     b"open 33",
     b"open",
     b"opens 1",
@@ -44,6 +44,10 @@ const ANSWERED: [&[u8]; 12] = [
     b"trial 2023 10\r",
     b"undo",
     b" undo  1\r",
+    b"ask 33",
+    b"ask",
+    b"  confirm   0 \r",
+    b"confirm 1 x",
 ];
 
 struct Conversation {
@@ -112,6 +116,12 @@ impl Conversation {
                 }
                 if self.line.starts_with(b"undo\n") {
                     self.tally.one("undos answered in conversation");
+                }
+                if self.line.starts_with(b"ask ") {
+                    self.tally.one("asks answered in conversation");
+                }
+                if self.line.starts_with(b"confirm ") {
+                    self.tally.one("confirms answered in conversation");
                 }
             }
         }
@@ -273,6 +283,8 @@ impl Conversation {
                 b"close 1",
                 b"trial 1 2 3",
                 b"undo",
+                b"ask 33",
+                b"confirm 33",
             ])
             .to_vec();
         let length = LINE_LIMIT - 1 + self.random.index(4);

@@ -9,6 +9,7 @@ use crate::period_days;
 use crate::sheet::{field_range, field_value, FIELDS};
 use crate::tally::Tally;
 use crate::tariff::{MONTH_LIMIT, RATE_LIMIT, RECORD, REGIONAL, STANDING_LIMIT, WHOLE};
+use marks::Mark;
 use regions::Quoted;
 use savings::is_saving;
 use trials::Tried;
@@ -41,6 +42,9 @@ pub struct Counts {
     last: Option<(Last, bool)>,
     /// How far the last calls have come in SET, SET, UNDO, UNDO.
     in_a_row: u32,
+    marks: [Mark; PLACES],
+    /// The set of codes that CONFIRM opened last.
+    confirmed: u32,
     records: [[u32; RECORD]; PLACES],
     used: [bool; PLACES],
     open: [bool; PLACES],
@@ -67,6 +71,8 @@ impl Default for Counts {
             undone: None,
             last: None,
             in_a_row: 0,
+            marks: [Mark::default(); PLACES],
+            confirmed: 0,
             records: [[0; RECORD]; PLACES],
             used: [false; PLACES],
             open: [false; PLACES],
@@ -86,6 +92,7 @@ macro_rules! count {
     }};
 }
 
+mod marks;
 mod regions;
 mod savings;
 mod splits;
@@ -105,6 +112,8 @@ impl Counts {
         self.undone = None;
         self.last = None;
         self.in_a_row = 0;
+        self.marks = [Mark::default(); PLACES];
+        self.confirmed = 0;
         self.used = [false; PLACES];
         self.open = [false; PLACES];
     }
@@ -199,6 +208,7 @@ impl Counts {
             "quote" => self.quote(&numbers, refusal, &values),
             _ => {}
         }
+        self.after_marks(call, &numbers, refusal, &values, book);
         self.after_call(call, refusal, chance);
         self.numbers = numbers;
         self.values = values;
@@ -211,7 +221,8 @@ impl Counts {
             return self.refused_sheet("set", numbers, refusal);
         }
         self.tally.different("sheets accepted", submitted);
-        if self.period.is_some() && self.in_force == submitted {
+        let in_force = self.period.is_some() && self.in_force == submitted;
+        if in_force {
             self.tally.one("set of the sheet in force");
         }
         let still_open = |place: usize| book.state(place as u32 + 1) == Some(State::Open);
@@ -225,8 +236,12 @@ impl Counts {
         if fallen > 0 {
             self.fall_by_number("set", fallen, &mut book.clone());
         }
+        if fallen & self.confirmed > 0 {
+            self.tally.one("set: one that was confirmed falls");
+        }
         self.same_set_after_undo(submitted, fallen);
         self.chance = Some(self.before_set());
+        self.marks_cleared(in_force);
         self.in_force = submitted;
         self.fields.clear();
         self.fields.extend(&numbers[3..]);

@@ -14,6 +14,8 @@ enum Call {
     Trial,
     Put,
     Open,
+    Ask,
+    Confirm,
     Close,
     Drop,
     Benchmark,
@@ -29,6 +31,8 @@ impl Call {
             b"trial" => Call::Trial,
             b"put" => Call::Put,
             b"open" => Call::Open,
+            b"ask" => Call::Ask,
+            b"confirm" => Call::Confirm,
             b"close" => Call::Close,
             b"drop" => Call::Drop,
             b"benchmark" => Call::Benchmark,
@@ -45,6 +49,8 @@ impl Call {
             Call::Trial => "trial takes at least 3 numbers",
             Call::Put => "put takes at least 1 number",
             Call::Open => "open takes 1 number",
+            Call::Ask => "ask takes 1 number",
+            Call::Confirm => "confirm takes 1 number",
             Call::Close => "close takes 1 number",
             Call::Drop => "drop takes 1 number",
             Call::Benchmark => "benchmark takes 4 numbers",
@@ -182,19 +188,11 @@ impl Desk {
                 }
             }
             (Call::Put, &[code, ref record @ ..]) => accepted(book.put(code, record), out),
-            (Call::Open, &[code]) => match book.open(code) {
+            (Call::Open, &[code]) => cells_or_breach(book.open(code), out),
+            (Call::Ask, &[code]) => cells_or_breach(book.ask(code), out),
+            (Call::Confirm, &[code]) => match book.confirm(code) {
                 Ok(cells) => values(&[u64::from(cells)], out),
-                Err(NotOpened::Refused(refusal)) => refused(refusal, out),
-                Err(NotOpened::OverCap(breach)) => {
-                    out.extend_from_slice(b"refused 11");
-                    write_number(u64::from(breach.region), out);
-                    write_number(u64::from(breach.method), out);
-                    write_number(breach.excess, out);
-                    for &kwh in breach.months() {
-                        write_number(u64::from(kwh), out);
-                    }
-                    out.push(b'\n');
-                }
+                Err(refusal) => refused(refusal, out),
             },
             (Call::Close, &[code]) => accepted(book.close(code), out),
             (Call::Drop, &[code]) => accepted(book.drop_code(code), out),
@@ -272,6 +270,23 @@ fn accepted(answer: Result<(), Refusal>, out: &mut Vec<u8>) {
     match answer {
         Ok(()) => out.extend_from_slice(b"ok\n"),
         Err(refusal) => refused(refusal, out),
+    }
+}
+
+fn cells_or_breach(answer: Result<u32, NotOpened>, out: &mut Vec<u8>) {
+    match answer {
+        Ok(cells) => values(&[u64::from(cells)], out),
+        Err(NotOpened::Refused(refusal)) => refused(refusal, out),
+        Err(NotOpened::OverCap(breach)) => {
+            out.extend_from_slice(b"refused 11");
+            write_number(u64::from(breach.region), out);
+            write_number(u64::from(breach.method), out);
+            write_number(breach.excess, out);
+            for &kwh in breach.months() {
+                write_number(u64::from(kwh), out);
+            }
+            out.push(b'\n');
+        }
     }
 }
 

@@ -92,6 +92,8 @@ impl Fuzz {
         let some_line = |test: fn(&[u8]) -> bool| input.split(|&byte| byte == b'\n').any(test);
         let trial = some_line(|line| line.starts_with(b"trial "));
         let undo = some_line(|line| line == b"undo");
+        let ask = some_line(|line| line.starts_with(b"ask "));
+        let confirm = some_line(|line| line.starts_with(b"confirm "));
 
         let ways = ["from a file", "in one write", "in pieces"];
         let way = random.index(ways.len());
@@ -134,6 +136,12 @@ impl Fuzz {
         }
         if undo {
             tally.one("fuzz: inputs with an undo");
+        }
+        if ask {
+            tally.one("fuzz: inputs with an ask");
+        }
+        if confirm {
+            tally.one("fuzz: inputs with a confirm");
         }
         tally.one(&format!("fuzz: {sort}"));
         tally.one(&format!("fuzz: inputs read {}", ways[way]));
@@ -254,8 +262,10 @@ impl Case<'_> {
     }
 
     fn line_of(&mut self, kind: usize, length: usize) -> Vec<u8> {
-        let calls: [&[u8]; 7] = [
+        let calls: [&[u8]; 9] = [
             b"open 33",
+            b"ask 33",
+            b"confirm 1",
             b"close 1",
             b"benchmark 13 1 1 1",
             b"quote 1 0 1 100 100 100",
@@ -282,7 +292,7 @@ impl Case<'_> {
                 line.extend_from_slice(numbers);
             }
             6 => {
-                let calls: [&[u8]; 5] = [b"set", b"put", b"quote", b"trial", b"undo"];
+                let calls: [&[u8]; 6] = [b"set", b"put", b"quote", b"trial", b"undo", b"ask"];
                 line.extend_from_slice(self.random.pick(&calls));
                 while line.len() + 11 < length {
                     line.push(b' ');

@@ -1,4 +1,5 @@
-//! The parts of the comparison: conversations, the fuzz of bytes, all periods and random calls.
+//! The parts of the comparison: conversations, the fuzz of bytes, all periods, all short lists of
+//! calls on one code and random calls.
 
 use std::sync::atomic::{AtomicBool, AtomicU64, Ordering};
 use std::sync::Mutex;
@@ -7,7 +8,7 @@ use crate::conversation::converse;
 use crate::counts::Counts;
 use crate::fuzz::Fuzz;
 use crate::program::Program;
-use crate::script::{all_periods, Writer};
+use crate::script::{all_periods, Writer, BEGINNINGS, LISTS};
 use crate::side_by_side::{in_parts, side_by_side};
 use crate::tally::Tally;
 
@@ -89,6 +90,25 @@ pub fn every_period(program: &Program) -> Result<Tally, String> {
     side_by_side(program, &mut in_parts(&all_periods()), &mut counts)
         .map_err(|difference| format!("all periods, {difference}"))?;
     Ok(counts.tally)
+}
+
+/// Each list of up to four calls on one code, from each beginning.
+pub fn every_list(program: &Program) -> Result<Tally, String> {
+    const PART: usize = 100;
+    let firsts: Vec<usize> = (0..LISTS).step_by(PART).collect();
+    let jobs = BEGINNINGS.len() * firsts.len();
+    all_jobs(jobs as u64, cores(), |job| {
+        let beginning = &BEGINNINGS[job as usize / firsts.len()];
+        let first = firsts[job as usize % firsts.len()];
+        let name = beginning.name;
+        let mut counts = Counts::default();
+        for (lists, script) in beginning.scripts(first..LISTS.min(first + PART)) {
+            side_by_side(program, &mut in_parts(&script), &mut counts)
+                .map_err(|difference| format!("short lists from {name}, {difference}"))?;
+            counts.tally.add(&format!("short lists from {name}"), lists);
+        }
+        Ok(counts.tally)
+    })
 }
 
 /// Conversations from seed `first` on; most of their time is waiting.

@@ -5,6 +5,8 @@
 //! side, worst months that tie, sheets at the edge of each refusal.
 
 mod edges;
+mod lists;
+mod marks;
 mod noise;
 mod orders;
 mod regions;
@@ -16,6 +18,7 @@ mod trials;
 mod undos;
 
 pub use edges::all_periods;
+pub use lists::{Beginning, BEGINNINGS, LISTS};
 pub(crate) use savings::SMNCC_EDGES;
 pub(crate) use splits::{is_share_edge, DRAFTED};
 
@@ -92,10 +95,13 @@ enum Turn {
     Regions,
     Undo,
     Undos,
+    Ask,
+    Confirm,
+    Marks,
 }
 
 /// Turns of a random script, by weight.
-const TURNS: [(Turn, u64); 17] = [
+const TURNS: [(Turn, u64); 20] = [
     (Turn::Set, 34),
     (Turn::Trial, 24),
     (Turn::Put, 170),
@@ -113,6 +119,9 @@ const TURNS: [(Turn, u64); 17] = [
     (Turn::Regions, 12),
     (Turn::Undo, 20),
     (Turn::Undos, 9),
+    (Turn::Ask, 40),
+    (Turn::Confirm, 30),
+    (Turn::Marks, 16),
 ];
 
 /// Turns of a speed script: one in a hundred is a sheet.
@@ -430,6 +439,18 @@ impl Writer {
         }
     }
 
+    fn ask(&mut self, code: u32) {
+        self.call("ask", &[code]);
+        if let Err(NotOpened::OverCap(breach)) = self.book.ask(code) {
+            self.breach = Some((code, breach));
+        }
+    }
+
+    fn confirm(&mut self, code: u32) {
+        self.call("confirm", &[code]);
+        let _ = self.book.confirm(code);
+    }
+
     fn close(&mut self, code: u32) {
         self.call("close", &[code]);
         let _ = self.book.close(code);
@@ -462,6 +483,17 @@ impl Writer {
                     self.follow_breach();
                 }
             }
+            Turn::Ask => {
+                let code = self.code_in(State::Draft, 5);
+                self.ask(code);
+                if self.random.one_in(2) {
+                    self.follow_breach();
+                }
+            }
+            Turn::Confirm => {
+                let code = self.code_to_confirm();
+                self.confirm(code);
+            }
             Turn::Close => {
                 let code = self.code_in(State::Open, 3);
                 self.close(code);
@@ -471,14 +503,18 @@ impl Writer {
                 self.drop_code(code);
             }
             Turn::Edge => self.edge(),
-            Turn::Fill if self.random.one_in(2) => self.trials_of_32(),
-            Turn::Fill => self.fill(),
+            Turn::Fill => match self.random.below(5) {
+                0 => self.marks_of_32(),
+                1..=2 => self.trials_of_32(),
+                _ => self.fill(),
+            },
             Turn::TwoFaults => self.two_faults(),
             Turn::FieldEnd => self.end_of_a_field(),
             Turn::Splits => self.splits(),
             Turn::Regions => self.regions(),
             Turn::Undo => self.undo(),
             Turn::Undos => self.undos(),
+            Turn::Marks => self.marks(),
             Turn::Benchmark | Turn::Maximum | Turn::Quote => {
                 if self.random.one_in(4) {
                     self.take_odd(turn);
@@ -647,8 +683,13 @@ impl Writer {
             };
             record[place] = most;
             self.put(code, &record);
-            self.open(code);
-            self.note("pairs: at the cap, then a mill over");
+            let two_people = self.random.one_in(5);
+            self.open_by(two_people, code);
+            self.note(if two_people {
+                "pairs: at the cap, then a mill over, by ask and confirm"
+            } else {
+                "pairs: at the cap, then a mill over"
+            });
             if let Some(breach) = self.breach_of(&{
                 let mut over = record;
                 over[place] += 1;
@@ -668,12 +709,12 @@ impl Writer {
                 self.close(code);
                 record[place] += 1;
                 self.put(code, &record);
-                self.open(code);
+                self.open_by(two_people, code);
                 self.follow_breach();
             }
         } else {
             self.put(code, &record);
-            self.open(code);
+            self.open_by_either_road(code);
         }
     }
 
@@ -683,7 +724,7 @@ impl Writer {
             if self.book.state(code) != Some(State::Open) {
                 let record = self.any_record();
                 self.put(code, &record);
-                self.open(code);
+                self.open_by_either_road(code);
             }
         }
         self.note("books with all 32 places used");

@@ -75,7 +75,7 @@ pub enum SheetError {
 }
 
 /// The two Benchmark Maximum Charges of a region, arrangement and method, in mills.
-#[derive(Clone, Copy, Debug, Default)]
+#[derive(Clone, Copy, Debug, Default, PartialEq, Eq)]
 pub(crate) struct Benchmark {
     pub nil: u32,
     pub m: u32,
@@ -107,7 +107,7 @@ impl Breach {
 }
 
 /// An accepted cost sheet with its period, the benchmarks worked out.
-#[derive(Clone, Debug)]
+#[derive(Clone, Debug, PartialEq, Eq)]
 pub(crate) struct Sheet {
     pub t: u32,
     pub days: u32,

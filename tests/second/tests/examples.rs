@@ -1,5 +1,8 @@
 //! The example scripts and their answers.
 
+use std::fs::read;
+use std::path::{Path, PathBuf};
+
 use second::desk::Desk;
 
 fn run(input: &[u8]) -> String {
@@ -10,20 +13,46 @@ fn run(input: &[u8]) -> String {
     String::from_utf8(out).unwrap()
 }
 
-#[test]
-fn the_reference_script_answers_as_its_comments_expect() {
-    let script = include_str!("../../../examples/reference.txt");
-    let answers = run(script.as_bytes());
-    assert_eq!(answers, include_str!("../../../examples/reference.out"));
-    let expected: Vec<&str> = script
-        .lines()
-        .filter_map(|line| line.strip_prefix("# expect: "))
+/// The scripts of the folder.
+fn scripts() -> Vec<PathBuf> {
+    let folder = Path::new(env!("CARGO_MANIFEST_DIR")).join("../../examples");
+    let files = folder.read_dir().unwrap().map(|file| file.unwrap().path());
+    let mut scripts: Vec<_> = files
+        .filter(|path| path.extension().is_some_and(|end| end == "txt"))
         .collect();
-    assert_eq!(answers.lines().collect::<Vec<_>>(), expected);
+    scripts.sort();
+    scripts
 }
 
 #[test]
-fn the_errors_script() {
-    let answers = run(include_bytes!("../../../examples/errors.txt"));
-    assert_eq!(answers, include_str!("../../../examples/errors.out"));
+fn each_script_answers_as_stored() {
+    let scripts = scripts();
+    for name in ["reference.txt", "errors.txt"] {
+        assert!(scripts.iter().any(|path| path.ends_with(name)), "{name}");
+    }
+    for path in scripts {
+        let stored = String::from_utf8(read(path.with_extension("out")).unwrap()).unwrap();
+        assert_eq!(run(&read(&path).unwrap()), stored, "{}", path.display());
+    }
+}
+
+/// Where a script says above each call what to expect.
+#[test]
+fn scripts_answer_as_their_comments_expect() {
+    let mut with_comments = 0;
+    for path in scripts() {
+        let script = read(&path).unwrap();
+        let text = String::from_utf8_lossy(&script);
+        let lines = text.lines();
+        let expected: Vec<&str> = lines
+            .filter_map(|line| line.strip_prefix("# expect: "))
+            .collect();
+        if !expected.is_empty() {
+            let answers = run(&script);
+            let answers: Vec<&str> = answers.lines().collect();
+            assert_eq!(answers, expected, "{}", path.display());
+            with_comments += 1;
+        }
+    }
+    assert!(with_comments > 0);
 }

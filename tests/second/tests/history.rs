@@ -1,7 +1,8 @@
-//! Demand 3 with UNDO among the calls (M-105). A slow reading of a whole list of calls stands
-//! beside the book: sheet, tariffs and open codes are read from the calls alone, as if an accepted
-//! UNDO and the SET that it takes back were not there, and so is whether there is something to
-//! take back. What a sheet, a tariff or the two together are worth is asked of fresh books.
+//! Demand 3 with UNDO, ASK and CONFIRM among the calls (M-105, M-106). A slow reading of a whole
+//! list of calls stands beside the book: sheet, tariffs, open codes and marks are read from the calls
+//! alone, as if an accepted UNDO and the SET that it takes back were not there, and so is whether
+//! there is something to take back. An accepted CONFIRM counts as an accepted OPEN. What a sheet, a
+//! tariff or the two together are worth is asked of fresh books.
 
 mod common;
 
@@ -16,6 +17,8 @@ enum Call {
     Trial(usize),
     Put(u32, usize),
     Open(u32),
+    Ask(u32),
+    Confirm(u32),
     Close(u32),
     Drop(u32),
     Undo,
@@ -84,6 +87,18 @@ fn values<T>(answer: Result<T, Refusal>, list: impl Fn(T) -> Vec<u64>) -> Answer
     }
 }
 
+fn cells_or_breach(answer: Result<u32, NotOpened>) -> Answer {
+    match answer {
+        Ok(cells) => (0, vec![cells.into()]),
+        Err(NotOpened::Refused(refusal)) => (refusal.number(), Vec::new()),
+        Err(NotOpened::OverCap(breach)) => {
+            let months = breach.months().iter().map(|&kwh| u64::from(kwh));
+            let cell = [breach.region.into(), breach.method.into(), breach.excess];
+            (11, cell.into_iter().chain(months).collect())
+        }
+    }
+}
+
 impl Stock {
     /// The book's own answer.
     fn make(&self, book: &mut Book, call: Call) -> Answer {
@@ -103,15 +118,9 @@ impl Stock {
             Call::Put(code, number) => {
                 values(book.put(code, &self.tariffs[number]), |()| Vec::new())
             }
-            Call::Open(code) => match book.open(code) {
-                Ok(cells) => (0, vec![cells.into()]),
-                Err(NotOpened::Refused(refusal)) => (refusal.number(), Vec::new()),
-                Err(NotOpened::OverCap(breach)) => {
-                    let months = breach.months().iter().map(|&kwh| u64::from(kwh));
-                    let cell = [breach.region.into(), breach.method.into(), breach.excess];
-                    (11, cell.into_iter().chain(months).collect())
-                }
-            },
+            Call::Open(code) => cells_or_breach(book.open(code)),
+            Call::Ask(code) => cells_or_breach(book.ask(code)),
+            Call::Confirm(code) => values(book.confirm(code), |cells| vec![cells.into()]),
             Call::Close(code) => values(book.close(code), |()| Vec::new()),
             Call::Drop(code) => values(book.drop_code(code), |()| Vec::new()),
             Call::Undo => values(book.undo(), |()| Vec::new()),
@@ -147,8 +156,8 @@ impl Stock {
 
 // What is read from the calls.
 
-/// The place in the list of the SET that UNDO would take back after these calls: no PUT, OPEN,
-/// CLOSE or DROP has been accepted since, and no UNDO.
+/// The place in the list of the SET that UNDO would take back after these calls: no PUT, OPEN, ASK,
+/// CONFIRM, CLOSE or DROP has been accepted since, and no UNDO.
 fn to_take_back(made: &[Made]) -> Option<usize> {
     let last = made.iter().rposition(|made| {
         made.accepted
@@ -157,6 +166,8 @@ fn to_take_back(made: &[Made]) -> Option<usize> {
                 Call::Set(_)
                     | Call::Put(..)
                     | Call::Open(_)
+                    | Call::Ask(_)
+                    | Call::Confirm(_)
                     | Call::Close(_)
                     | Call::Drop(_)
                     | Call::Undo
@@ -205,11 +216,12 @@ fn tariff_of(made: &[Made], code: u32) -> Option<usize> {
     }
 }
 
-/// A code is open when an OPEN of it was accepted and, since the last such, no CLOSE, PUT or DROP of
-/// it and no SET with whose sheet its tariff exceeds.
+/// A code is open when an OPEN or CONFIRM of it was accepted and, since the last such, no CLOSE, PUT or
+/// DROP of it and no SET with whose sheet its tariff exceeds.
 fn is_open(stock: &Stock, made: &[Made], code: u32) -> bool {
     let calls = accepted(made);
-    let Some(opened) = calls.iter().rposition(|&call| call == Call::Open(code)) else {
+    let opens = |call: &Call| [Call::Open(code), Call::Confirm(code)].contains(call);
+    let Some(opened) = calls.iter().rposition(opens) else {
         return false;
     };
     calls[opened..].iter().all(|&call| match call {
@@ -219,6 +231,20 @@ fn is_open(stock: &Stock, made: &[Made], code: u32) -> bool {
             let tariff = tariff_of(made, code);
             tariff.is_some_and(|tariff| !stock.exceeds(number, tariff))
         }
+        _ => true,
+    })
+}
+
+/// A code is marked when an ASK of it was accepted and, since the last such, no SET, no PUT or DROP of
+/// it, and no OPEN or CONFIRM of it, since an open tariff has no mark.
+fn is_marked(made: &[Made], code: u32) -> bool {
+    let calls = accepted(made);
+    let Some(asked) = calls.iter().rposition(|&call| call == Call::Ask(code)) else {
+        return false;
+    };
+    calls[asked..].iter().all(|&call| match call {
+        Call::Put(of, _) | Call::Drop(of) | Call::Open(of) | Call::Confirm(of) => of != code,
+        Call::Set(_) => false,
         _ => true,
     })
 }
@@ -257,12 +283,27 @@ fn answer(stock: &Stock, made: &[Made], call: Call) -> Answer {
             let set: u64 = (1..=32).filter(falls).map(|code| 1 << (code - 1)).sum();
             (0, vec![set])
         }
-        Call::Put(code, _) | Call::Open(code) | Call::Drop(code) if is_open(stock, made, code) => {
+        Call::Put(code, _)
+        | Call::Open(code)
+        | Call::Ask(code)
+        | Call::Confirm(code)
+        | Call::Drop(code)
+            if is_open(stock, made, code) =>
+        {
             (7, Vec::new())
         }
         Call::Close(code) if is_open(stock, made, code) => (0, Vec::new()),
+        // The cells are those that OPEN would answer.
+        Call::Confirm(code) if is_marked(made, code) => {
+            let at = tariff_of(made, code).map(|tariff| (code, tariff));
+            let opened = stock.make(&mut stock.fresh(sheet, at), Call::Open(code));
+            assert_eq!(opened.0, 0, "a marked draft over the cap");
+            opened
+        }
         Call::Put(code, _)
         | Call::Open(code)
+        | Call::Ask(code)
+        | Call::Confirm(code)
         | Call::Close(code)
         | Call::Drop(code)
         | Call::Quote(code) => as_fresh(Some(code)),
@@ -278,6 +319,13 @@ fn assert_places(stock: &Stock, made: &[Made], book: &Book, codes: &[u32]) {
         assert_eq!(
             book.state(code),
             Some(read),
+            "code {code} after {:?}",
+            list()
+        );
+        let marked = is_marked(made, code);
+        assert_eq!(
+            book.is_marked(code),
+            marked,
             "code {code} after {:?}",
             list()
         );
@@ -304,16 +352,18 @@ fn random_call(random: &mut Random, stock: &Stock) -> Call {
     };
     let sheet = random.index(stock.sheets.len());
     let tariff = random.index(stock.tariffs.len());
-    match random.below(25) {
+    match random.below(38) {
         0..=6 => Call::Set(sheet),
         7 => Call::Trial(sheet),
-        8..=9 => Call::Put(code, tariff),
-        10..=14 => Call::Open(code),
-        15 => Call::Close(code),
-        16 => Call::Drop(code),
-        17 => Call::Benchmark,
-        18 => Call::Maximum,
-        19 => Call::Quote(code),
+        8..=10 => Call::Put(code, tariff),
+        11..=15 => Call::Open(code),
+        16..=17 => Call::Close(code),
+        18 => Call::Drop(code),
+        19 => Call::Benchmark,
+        20 => Call::Maximum,
+        21 => Call::Quote(code),
+        22..=27 => Call::Ask(code),
+        28..=32 => Call::Confirm(code),
         _ => Call::Undo,
     }
 }
@@ -332,7 +382,8 @@ fn long_lists_read_from_the_calls_alone() {
     let stock = stock();
     let mut random = Random::new(105);
     let (mut taken_back, mut refused, mut came_back, mut firsts) = (0, 0, 0, 0);
-    for _ in 0..6_000 {
+    let (mut asked, mut confirmed, mut not_marked, mut marks_back) = (0, 0, 0, 0);
+    for _ in 0..12_000 {
         let mut made = Vec::new();
         let mut book = Book::new();
         if random.one_in(2) {
@@ -347,6 +398,7 @@ fn long_lists_read_from_the_calls_alone() {
                     .filter(|&code| book.state(code) == Some(State::Open))
                     .count()
             };
+            let marks = |book: &Book| (1..=3).filter(|&code| book.is_marked(code)).count();
             let before = open(&book);
             let call = random_call(&mut random, &stock);
             let answer = step(&stock, &mut made, &mut book, call);
@@ -355,8 +407,12 @@ fn long_lists_read_from_the_calls_alone() {
                     taken_back += 1;
                     came_back += open(&book) - before;
                     firsts += usize::from(book.t().is_none());
+                    marks_back += marks(&book);
                 }
                 (Call::Undo, _) => refused += 1,
+                (Call::Ask(_), 0) => asked += 1,
+                (Call::Confirm(_), 0) => confirmed += 1,
+                (Call::Confirm(_), 16) => not_marked += 1,
                 _ => {}
             }
         }
@@ -366,6 +422,11 @@ fn long_lists_read_from_the_calls_alone() {
     let met = [taken_back, refused, came_back, firsts];
     assert!(
         taken_back > 5_000 && refused > 10_000 && came_back > 500 && firsts > 1_000,
+        "{met:?}"
+    );
+    let met = [asked, confirmed, not_marked, marks_back];
+    assert!(
+        asked > 2_000 && confirmed > 300 && not_marked > 2_000 && marks_back > 100,
         "{met:?}"
     );
 }
@@ -416,5 +477,32 @@ fn all_short_lists_read_from_the_calls_alone() {
         }
         let lists = all_lists(&stock, &mut made, &book, &calls, 5);
         assert_eq!(lists, 111_111);
+    }
+}
+
+#[test]
+fn all_short_lists_of_asks_and_confirms_read_from_the_calls_alone() {
+    let stock = stock();
+    let calls = [
+        Call::Set(0),
+        Call::Set(1),
+        Call::Put(1, 0),
+        Call::Open(1),
+        Call::Ask(1),
+        Call::Confirm(1),
+        Call::Close(1),
+        Call::Drop(1),
+        Call::Undo,
+    ];
+    // A draft that is asked for, and one whose mark a sheet cleared.
+    let asked = [Call::Set(0), Call::Put(1, 0), Call::Ask(1), Call::Set(1)];
+    let begins: [&[Call]; 4] = [&[], &asked[..2], &asked[..3], &asked];
+    for begin in begins {
+        let (mut made, mut book) = (Vec::new(), Book::new());
+        for &call in begin {
+            step(&stock, &mut made, &mut book, call);
+        }
+        let lists = all_lists(&stock, &mut made, &book, &calls, 5);
+        assert_eq!(lists, 66_430);
     }
 }

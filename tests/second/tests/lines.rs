@@ -128,6 +128,38 @@ fn answers_of_undo() {
     );
 }
 
+/// A draft at the cap of the reference sheet, asked for and confirmed, and one a mill over it.
+#[test]
+fn answers_of_ask_and_confirm() {
+    let set = reference_line();
+    let zeros = " 0".repeat(21);
+    let mut input = "ask 1\nconfirm 1\nask 33\nconfirm 0\n".to_string();
+    input.push_str(&format!("put 1 1 1 23960 16383 3 18000{zeros}\n"));
+    input.push_str("ask 1\nconfirm 1\n");
+    input.push_str(&set);
+    input.push_str("confirm 1\nask 1\nundo\nclose 1\n   ask   0001 \r\n");
+    input.push_str("confirm 1\nconfirm 1\nask 1\nclose 1\nconfirm 1\n");
+    input.push_str(&format!("put 2 1 1 23961 5 2 18000{zeros}\n"));
+    input.push_str("ask 2\nconfirm 2\n");
+    input.push_str(&format!("put 2 1 1 23960 5 2 18000{zeros}\n"));
+    input.push_str("ask 2\n");
+    input.push_str(&set);
+    input.push_str("confirm 2\nundo\nconfirm 2\nundo\nask\nconfirm 1 2\nask x\nask 1");
+    assert_eq!(
+        run(input.as_bytes()),
+        "refused 9\nrefused 9\nrefused 6\nrefused 6\n\
+         ok\nrefused 10\nrefused 16\n\
+         ok\nrefused 16\nok 28\nrefused 15\nrefused 12\nok 28\n\
+         ok 28\nrefused 7\nrefused 7\nok\nrefused 16\n\
+         ok\nrefused 11 0 1 1332000000 0 0 0\nrefused 16\n\
+         ok\nok 2\nok\nrefused 16\nok\nok 2\nrefused 15\n\
+         error line 29: ask takes 1 number\n\
+         error line 30: confirm takes 1 number\n\
+         error line 31: word 2 is not a number from 0 to 4294967295\n\
+         ok 28\n"
+    );
+}
+
 /// SMNCC is word 41, in two's complement: 4,294,467,296 is -500,000.
 #[test]
 fn a_saving_is_written_without_a_sign() {
@@ -163,6 +195,27 @@ fn lines_that_are_no_calls() {
         ("open\r 1", "unknown call"),
         ("open", "open takes 1 number"),
         ("open 1 2", "open takes 1 number"),
+        ("ask", "ask takes 1 number"),
+        ("ask 1 2", "ask takes 1 number"),
+        ("confirm", "confirm takes 1 number"),
+        ("confirm 1 2 3", "confirm takes 1 number"),
+        ("ask x", "word 2 is not a number from 0 to 4294967295"),
+        ("ask 1 -1", "word 3 is not a number from 0 to 4294967295"),
+        (
+            "confirm 4294967296",
+            "word 2 is not a number from 0 to 4294967295",
+        ),
+        ("confirm 1 #", "word 3 is not a number from 0 to 4294967295"),
+        ("ASK 1", "unknown call"),
+        ("asks 1", "unknown call"),
+        ("as 1", "unknown call"),
+        ("ask1", "unknown call"),
+        ("ask# 1", "unknown call"),
+        ("ask\t1", "unknown call"),
+        ("Confirm 1", "unknown call"),
+        ("confirms 1", "unknown call"),
+        ("confir 1", "unknown call"),
+        ("confirm1", "unknown call"),
         ("close", "close takes 1 number"),
         ("drop 1 2 3", "drop takes 1 number"),
         ("set", "set takes at least 3 numbers"),

@@ -22,6 +22,10 @@ fn fixed_fuzz(program: &Program) -> Result<(), String> {
     fuzz_cases(program, FUZZ_SEED, FUZZ_CASES).map(drop)
 }
 
+fn short_lists(program: &Program) -> Result<(), String> {
+    every_list(program).map(drop)
+}
+
 fn first_seed(program: &Program) -> Result<(), String> {
     random_calls(program, 1).map(drop)
 }
@@ -45,6 +49,7 @@ fn right_desks_pass() {
         fuzz_cases(&program, FUZZ_SEED, 200).unwrap();
         random_calls(&program, 1).unwrap();
     }
+    every_list(&Program::new(env!("CARGO_BIN_EXE_desk"))).unwrap();
 }
 
 /// Each fault is found, and the report names the line and says this.
@@ -321,11 +326,15 @@ fn random_calls_find_what_is_wrong_with_an_undo() {
 fn random_calls_find_a_chance_to_undo_that_lasts_too_long_or_not_long_enough() {
     let taken = "expected: refused 15\n  answered: ok";
     let refused = "expected: ok\n  answered: refused 15";
-    for call in ["put", "open", "close", "drop"] {
+    for call in ["put", "open", "ask", "close", "drop"] {
         let fault = format!("undo: the chance survives an accepted {call}");
         all_found(&[(&fault, taken)], first_seed_answered);
     }
-    for call in ["put", "open", "close", "drop", "set", "trial", "quote"] {
+    // There is none when a CONFIRM is accepted: SET clears the marks, and ASK ends the chance.
+    first_seed(&wrong("undo: the chance survives an accepted confirm")).unwrap();
+    for call in [
+        "put", "open", "ask", "confirm", "close", "drop", "set", "trial", "quote",
+    ] {
         let fault = format!("undo: the chance ends by a refused {call}");
         all_found(&[(&fault, refused)], first_seed_answered);
         let fault = format!("undo: a refused {call} makes a chance");
@@ -337,6 +346,162 @@ fn random_calls_find_a_chance_to_undo_that_lasts_too_long_or_not_long_enough() {
         let fault = format!("undo: an accepted {call} makes a chance");
         all_found(&[(&fault, taken)], first_seed_answered);
     }
+    for call in ["ask", "confirm"] {
+        let fault = format!("undo: an accepted {call} makes a chance");
+        all_found(&[(&fault, taken)], first_seed_answered);
+    }
+}
+
+/// What the answers say where a mark is missing, and where one is there that should not be.
+const LOST: &str = "expected: ok";
+const LEFT: &str = "expected: refused 16\n  answered: ok";
+
+/// Faults of ASK and CONFIRM that show on one code, and so in the short lists too.
+const OF_ONE_CODE: [(&str, &str); 28] = [
+    ("confirm: no 16", LEFT),
+    (
+        "confirm: 16 before 7",
+        "expected: refused 7\n  answered: refused 16",
+    ),
+    (
+        "confirm: 16 before 9",
+        "expected: refused 9\n  answered: refused 16",
+    ),
+    (
+        "confirm: 10 before 16",
+        "expected: refused 16\n  answered: refused 10",
+    ),
+    (
+        "confirm: 11 before 16",
+        "expected: refused 16\n  answered: refused 11",
+    ),
+    ("confirm: it answers no cells", LOST),
+    ("confirm: it leaves a draft", "expected: "),
+    ("ask: no 11", "expected: refused 11"),
+    ("ask: no 10", "expected: refused 10"),
+    ("ask: no 7", "expected: refused 7"),
+    (
+        "ask: 10 before 9",
+        "expected: refused 9\n  answered: refused 10",
+    ),
+    ("ask: no figures with 11", "expected: refused 11"),
+    ("ask: it answers no cells", LOST),
+    ("ask: it opens", "answered: refused 7"),
+    (
+        "marks: a marked draft is not asked for again",
+        "answered: refused 7",
+    ),
+    ("marks: a marked draft is not opened", "answered: refused 7"),
+    (
+        "marks: a marked draft is not put over",
+        "answered: refused 7",
+    ),
+    (
+        "marks: a marked draft is not dropped",
+        "answered: refused 7",
+    ),
+    (
+        "marks: a marked draft is closed",
+        "expected: refused 12\n  answered: ok",
+    ),
+    ("marks: a mark survives set", LEFT),
+    ("marks: a mark survives a set of the sheet in force", LEFT),
+    (
+        "marks: a mark survives a set under which the draft is within the cap",
+        LEFT,
+    ),
+    ("marks: a mark survives put", LEFT),
+    ("marks: a mark survives drop and then put", LEFT),
+    ("marks: a mark survives open", LEFT),
+    ("marks: a mark survives confirm", LEFT),
+    ("marks: ask takes a mark away", LOST),
+    ("marks: undo loses the marks", LOST),
+];
+
+#[test]
+fn random_calls_find_what_is_wrong_with_ask_and_confirm() {
+    all_found(&OF_ONE_CODE, first_seed_answered);
+    all_found(
+        &[
+            ("confirm: 16 before 6", "expected: refused 6"),
+            ("confirm: it answers 28 cells", LOST),
+            ("confirm: it answers the regions", LOST),
+            ("ask: 10 before 6", "expected: refused 6"),
+            ("ask: it answers 28 cells", LOST),
+            ("ask: it answers the regions", LOST),
+            ("ask: region 0 alone is looked at", "expected: refused 11"),
+            ("marks: a marked draft is not quoted", "answered: refused 9"),
+            ("marks: a trial tells marked drafts", " trial "),
+            ("marks: a mark survives a set by which none fall", LEFT),
+            ("marks: set clears the mark of code 1 alone", LEFT),
+            ("marks: set clears all marks but that of code 1", LEFT),
+            ("marks: set clears all marks but that of code 32", LEFT),
+            ("marks: the next code is marked too", LEFT),
+            ("marks: the code before is marked too", LEFT),
+            ("marks: the next code is marked", "expected: "),
+            ("marks: one mark is kept at a time", LOST),
+            ("marks: undo brings back one mark", LOST),
+            ("marks: undo brings back older marks", LEFT),
+            ("marks: undo marks all drafts", LEFT),
+            (
+                "marks: what was confirmed stays open at a set",
+                "expected: ",
+            ),
+            ("marks: a trial does not tell what was confirmed", " trial "),
+            ("marks: undo does not open what was confirmed", "expected: "),
+            ("marks: a refused put clears the mark of its code", LOST),
+            ("marks: a refused close clears the mark of its code", LOST),
+        ],
+        first_seed_answered,
+    );
+    // An empty place shows no mark, and PUT clears it in any case.
+    first_seed(&wrong("marks: a mark survives drop")).unwrap();
+    // The marks that the desks above go by are not what is found.
+    first_seed(&wrong("marks: nothing is wrong")).unwrap();
+}
+
+#[test]
+fn random_calls_find_a_call_that_clears_all_marks() {
+    let calls = [
+        "put",
+        "open",
+        "ask",
+        "confirm",
+        "close",
+        "drop",
+        "trial",
+        "benchmark",
+        "maximum",
+        "quote",
+    ];
+    for call in calls.into_iter().chain(["set", "undo"]) {
+        let fault = format!("marks: a refused {call} clears all marks");
+        all_found(&[(&fault, LOST)], first_seed_answered);
+    }
+    for call in calls {
+        let fault = format!("marks: an accepted {call} clears all marks");
+        all_found(&[(&fault, LOST)], first_seed_answered);
+    }
+}
+
+#[test]
+fn short_lists_find_what_is_wrong_with_ask_and_confirm() {
+    all_found(&OF_ONE_CODE, short_lists);
+    let taken = "expected: refused 15\n  answered: ok";
+    let refused = "expected: ok\n  answered: refused 15";
+    all_found(
+        &[
+            ("undo: the chance survives an accepted ask", taken),
+            ("undo: the chance ends by a refused ask", refused),
+            ("undo: the chance ends by a refused confirm", refused),
+            ("undo: an accepted ask makes a chance", taken),
+            ("undo: an accepted confirm makes a chance", taken),
+            ("marks: undo brings back older marks", LEFT),
+            ("marks: a refused close clears the mark of its code", LOST),
+            ("marks: a refused undo clears all marks", LOST),
+        ],
+        short_lists,
+    );
 }
 
 #[test]

@@ -1,7 +1,8 @@
 //! Compares another program's answers with this book's.
 //!
-//!     compare PROGRAM                  conversations, a fuzz of bytes, all periods and random
-//!                                      calls from fixed seeds, and what they must have reached
+//!     compare PROGRAM                  conversations, a fuzz of bytes, all periods, all short
+//!                                      lists of calls on one code and random calls from fixed
+//!                                      seeds, and what they must have reached
 //!     compare PROGRAM --counts         the same, with all the counts
 //!     compare PROGRAM --commit HEX     the same, and a seed of the commit's own
 //!     compare PROGRAM SEED..           conversations, bytes and calls from these seeds
@@ -16,6 +17,7 @@ use second::bars::{missed, BARS};
 use second::counts::Counts;
 use second::program::Program;
 use second::runs::*;
+use second::script::{BEGINNINGS, LISTS};
 use second::side_by_side::{in_parts, side_by_side};
 
 /// A closing line: how many, and of what.
@@ -44,6 +46,9 @@ fn fixed_run(program: &Program, commit: Option<u64>, all_counts: bool) -> Result
     let periods = every_period(program)?;
     let over_periods = periods.count("calls");
     tally.merge(periods);
+    let lists = every_list(program)?;
+    let in_lists = lists.count("calls");
+    tally.merge(lists);
     let random = fixed_seeds(program)?;
     let random_calls = random.count("calls");
     tally.merge(random);
@@ -62,6 +67,14 @@ fn fixed_run(program: &Program, commit: Option<u64>, all_counts: bool) -> Result
     tell(
         over_periods,
         "calls, answered alike, over all 11,808 periods",
+    );
+    let what = "calls, answered alike, in all lists of up to four on one code:";
+    tell(in_lists, what);
+    println!(
+        "{:>11}  {} lists, each from {} beginnings",
+        "",
+        grouped(LISTS as u64),
+        BEGINNINGS.len()
     );
     tell(
         count("sheets submitted"),
@@ -98,6 +111,12 @@ fn fixed_run(program: &Program, commit: Option<u64>, all_counts: bool) -> Result
     tell(
         count("undo refused 15"),
         "undos refused, with nothing to take back",
+    );
+    tell(count("ask ok"), "drafts asked for, and marked");
+    tell(count("confirm ok"), "marked drafts confirmed, and opened");
+    tell(
+        count("confirm refused 16"),
+        "drafts not confirmed, without a mark",
     );
     tell(
         count("lines sent one by one, answered before the next"),

@@ -9,11 +9,15 @@ use std::io::{self, Read, Write};
 use std::process::ExitCode;
 use std::time::Duration;
 
+use marks::{Made, WrongMarks};
 use second::desk::{Desk, LINE_LIMIT};
 use second::{
     field_value, operating_costs, period_days, Book, NotOpened, Refusal, State, Tariff, FIELDS,
     PEAK_SHARE, RECORD, REGIONAL, REGIONS, SMNCC, STANDING_LIMIT, WHOLE,
 };
+
+#[path = "wrong_desk/marks.rs"]
+mod marks;
 
 const BLOCK: usize = 65_536;
 
@@ -32,6 +36,7 @@ struct WrongDesk {
     /// those that it made drafts, though they did not.
     misjudged: (u32, u32),
     undos: WrongUndos,
+    marks: WrongMarks,
 }
 
 /// UNDO by copies of the book, with a fault.
@@ -115,6 +120,12 @@ impl WrongDesk {
             if self.fault_of("undo").is_some() {
                 return self.line_with_wrong_undo(call, &numbers, line, out);
             }
+            if ["marks", "ask", "confirm"]
+                .iter()
+                .any(|of| self.fault_of(of).is_some())
+            {
+                return self.line_with_wrong_marks(call, &numbers, line, out);
+            }
             let book = self.wrong_book(call, &numbers);
             elsewhere = book.and_then(|book| answer_of(book, call, &numbers));
             other = self.wrong_numbers(call, &numbers);
@@ -149,6 +160,56 @@ impl WrongDesk {
             let record = numbers[1..].try_into();
             // A fault may have taken another length.
             self.records[numbers[0] as usize] = record.unwrap_or([0; RECORD]);
+        }
+    }
+
+    /// A call to a desk whose marks have the fault, or whose ASK or CONFIRM.
+    fn line_with_wrong_marks(
+        &mut self,
+        call: &str,
+        numbers: &[u32],
+        line: &[u8],
+        out: &mut Vec<u8>,
+    ) {
+        let start = out.len();
+        let before = self.desk.book().clone();
+        self.desk.line(line, out);
+        if out.len() == start {
+            return;
+        }
+        // One of ASK is none of the other calls.
+        let fault = self.fault_of("marks").or(self.fault_of(call));
+        let fault = fault.unwrap_or_default().to_string();
+        let answer = String::from_utf8_lossy(&out[start..]).into_owned();
+        let refusal = answer.strip_prefix("refused ");
+        let refusal = refusal.and_then(|rest| rest.split_whitespace().next()?.parse().ok());
+        let made = Made {
+            call,
+            numbers,
+            refusal: refusal.unwrap_or(0),
+            answer: &answer,
+            before: &before,
+            after: self.desk.book(),
+            records: &self.records,
+            in_force: &self.in_force,
+        };
+        if let Some(wrong) = self.marks.answer(&fault, &made) {
+            out.truncate(start);
+            out.extend_from_slice(wrong.as_bytes());
+        }
+        self.marks.after(&fault, &made);
+        let accepted = made.refusal == 0;
+        match (call, &fault[..]) {
+            _ if !accepted => {}
+            ("ask", "it opens") => drop(self.desk.book_mut().open(numbers[0])),
+            ("confirm", "it leaves a draft") => drop(self.desk.book_mut().close(numbers[0])),
+            ("set", _) => self.before = std::mem::replace(&mut self.in_force, numbers.to_vec()),
+            ("undo", _) => self.in_force = std::mem::take(&mut self.before),
+            ("put", _) => {
+                let record = numbers[1..].try_into();
+                self.records[numbers[0] as usize] = record.expect("a tariff");
+            }
+            _ => {}
         }
     }
 
@@ -193,7 +254,7 @@ impl WrongDesk {
                 self.undos.by_sheet = None;
                 return;
             }
-            ("put" | "open" | "close" | "drop", true)
+            ("put" | "open" | "ask" | "confirm" | "close" | "drop", true)
                 if fault != format!("the chance survives an accepted {call}") =>
             {
                 kept.clear();
@@ -838,6 +899,7 @@ fn work(fault: &str) -> io::Result<ExitCode> {
         records: [[0; RECORD]; 33],
         misjudged: (0, 0),
         undos: WrongUndos::default(),
+        marks: WrongMarks::default(),
     };
     match fault {
         "it leaves at once" => return Ok(ExitCode::SUCCESS),

@@ -85,10 +85,10 @@ impl Counts {
             return;
         }
         match (call, refusal) {
-            ("trial" | "open" | "benchmark" | "maximum" | "quote", 0) => {
+            ("trial" | "open" | "ask" | "confirm" | "benchmark" | "maximum" | "quote", 0) => {
                 count!(self, "under a saving: {call} ok");
             }
-            ("open", 11) => self.tally.one("under a saving: open refused 11"),
+            ("open" | "ask", 11) => count!(self, "under a saving: {call} refused 11"),
             _ => {}
         }
         if (call, refusal) == ("quote", 0) && values[0] == values[1] {

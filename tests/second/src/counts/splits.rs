@@ -113,10 +113,10 @@ impl Counts {
             return;
         }
         match (call, refusal) {
-            ("trial" | "open" | "benchmark" | "maximum" | "quote", 0) => {
+            ("trial" | "open" | "ask" | "confirm" | "benchmark" | "maximum" | "quote", 0) => {
                 count!(self, "under another split: {call} ok");
             }
-            ("open", 11) => self.tally.one("under another split: open refused 11"),
+            ("open" | "ask", 11) => count!(self, "under another split: {call} refused 11"),
             _ => {}
         }
     }

@@ -79,6 +79,9 @@ impl Counts {
         if was == PLACES as u32 {
             count!(self, "trial: {which} of 32 open ones would fall");
         }
+        if tried.fallen & self.confirmed > 0 {
+            self.tally.one("trial: one that was confirmed would fall");
+        }
         let mut after = book.clone();
         let set = after.set(year, month, t, fields);
         set.expect("a sheet that the trial accepts");
@@ -140,11 +143,11 @@ impl Counts {
         let code = numbers.first().copied().unwrap_or(0);
         let fell = (1..=32).contains(&code) && tried.fallen >> (code - 1) & 1 == 1;
         match (call, refusal) {
-            ("open", 11) | ("close", 12) if tried.set && fell => {
+            ("open" | "ask", 11) | ("close", 12) | ("confirm", 16) if tried.set && fell => {
                 count!(self, "trial, the same set, then {call} of one that fell");
             }
             _ if tried.set => {}
-            ("close" | "quote", 0) | ("open" | "put" | "drop", 7) if fell => {
+            ("close" | "quote", 0) | ("open" | "ask" | "confirm" | "put" | "drop", 7) if fell => {
                 count!(self, "trial, then {call} of one that would fall");
             }
             ("benchmark" | "maximum", 0) if tried.key != self.in_force => {

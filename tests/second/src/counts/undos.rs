@@ -19,6 +19,7 @@ pub(super) struct Before {
     fields: Vec<u32>,
     saving: bool,
     open: [bool; PLACES],
+    marks: [Mark; PLACES],
 }
 
 /// A SET that UNDO took back.
@@ -30,6 +31,8 @@ pub(super) struct Undone {
     first: bool,
     /// The set of codes that came back.
     back: u32,
+    /// The set of codes whose marks came back.
+    marks: u32,
     /// A call that changed a place was accepted since.
     changed: bool,
 }
@@ -42,6 +45,8 @@ fn static_name(call: &str) -> &'static str {
         "trial" => "trial",
         "put" => "put",
         "open" => "open",
+        "ask" => "ask",
+        "confirm" => "confirm",
         "close" => "close",
         "drop" => "drop",
         "benchmark" => "benchmark",
@@ -64,6 +69,7 @@ impl Counts {
     /// A line that is no call comes after whatever there was.
     pub(super) fn no_call(&mut self, last: Last) {
         self.last = Some((last, self.chance.is_some()));
+        self.marks_after_no_call();
     }
 
     /// What stands before a SET, so that UNDO can bring it back.
@@ -74,6 +80,7 @@ impl Counts {
             fields: self.fields.clone(),
             saving: self.saving,
             open: self.open,
+            marks: self.marks,
         }
     }
 
@@ -81,7 +88,7 @@ impl Counts {
     pub(super) fn after_call(&mut self, call: &str, refusal: u64, chance: bool) {
         let call = static_name(call);
         self.last = Some((Last::Call(call, refusal), chance));
-        let changes = ["put", "open", "close", "drop"].contains(&call);
+        let changes = ["put", "open", "ask", "confirm", "close", "drop"].contains(&call);
         if changes && refusal == 0 {
             self.chance = None;
         }
@@ -144,6 +151,9 @@ impl Counts {
         if was == u32::MAX {
             count!(self, "undo: {which} of 32 open ones come back");
         }
+        if back & self.confirmed > 0 {
+            self.tally.one("undo: one that was confirmed comes back");
+        }
         for place in (0..PLACES).filter(|&place| back >> place & 1 == 1) {
             let record = self.records[place];
             self.shape("comes back", &record);
@@ -167,6 +177,7 @@ impl Counts {
             self.tally.one(what);
         }
 
+        let marks = self.marks_come_back(before.marks, book);
         let period = self.period.expect("a sheet to take back");
         let fields = std::mem::replace(&mut self.fields, before.fields);
         self.undone = Some(Undone {
@@ -174,6 +185,7 @@ impl Counts {
             key: self.in_force,
             first: before.period.is_none(),
             back,
+            marks,
             changed: false,
         });
         self.period = before.period;
@@ -218,7 +230,7 @@ impl Counts {
             // Counted there.
             ("set", 0) if undone.key == key(numbers) => {}
             ("set", 0) => return,
-            ("put" | "open" | "close" | "drop", 0) => undone.changed = true,
+            ("put" | "open" | "ask" | "confirm" | "close" | "drop", 0) => undone.changed = true,
             _ => {}
         }
         self.undone = Some(undone);
@@ -247,10 +259,17 @@ impl Counts {
         let first = numbers.first().copied().unwrap_or(0);
         let came_back = among(undone.back, first);
         match (call, refusal) {
-            ("close" | "quote", 0) | ("open" | "put" | "drop", 7) if came_back => {
+            ("close" | "quote", 0) | ("open" | "ask" | "confirm" | "put" | "drop", 7)
+                if came_back =>
+            {
                 count!(self, "undo, then {call} of one that came back");
             }
-            ("open", 0 | 11) | ("close", 12) => {
+            ("open" | "ask" | "confirm" | "put" | "drop", 0) | ("close", 12)
+                if among(undone.marks, first) =>
+            {
+                count!(self, "undo, then {call} of one whose mark came back");
+            }
+            ("open" | "ask", 0 | 11) | ("close", 12) | ("confirm", 16) => {
                 count!(self, "undo, then {call} of one that is a draft");
             }
             ("trial", 0) if undone.key == key(numbers) => {

@@ -25,7 +25,7 @@ impl Writer {
     }
 
     pub(super) fn unknown_call(&mut self) -> Vec<u8> {
-        const WORDS: [&[u8]; 23] = [
+        const WORDS: [&[u8]; 31] = [
             b"SET 2023 10 3",
             b"TRIAL 2023 10 3",
             b"trials 2023 10 3",
@@ -34,6 +34,14 @@ impl Writer {
             b"undos",
             b"und",
             b"undo1",
+            b"ASK 1",
+            b"asks 1",
+            b"as 1",
+            b"ask1",
+            b"CONFIRM 1",
+            b"confirms 1",
+            b"confir 1",
+            b"confirm# 1",
             b"Open 1",
             b"opens 1",
             b"ope 1",
@@ -74,12 +82,14 @@ impl Writer {
             b"\xc2\xb2",
             b"1\r",
         ];
-        const CALLS: [&str; 10] = [
+        const CALLS: [&str; 12] = [
             "set",
             "undo",
             "trial",
             "put",
             "open",
+            "ask",
+            "confirm",
             "close",
             "drop",
             "benchmark",
@@ -122,12 +132,14 @@ impl Writer {
     }
 
     pub(super) fn wrong_count(&mut self) -> Vec<u8> {
-        const CALLS: [(&str, &[usize]); 10] = [
+        const CALLS: [(&str, &[usize]); 12] = [
             ("set", &[0, 1, 2]),
             ("undo", &[1, 2, 3, 20]),
             ("trial", &[0, 1, 2]),
             ("put", &[0]),
             ("open", &[0, 2, 3, 20]),
+            ("ask", &[0, 2, 3, 20]),
+            ("confirm", &[0, 2, 3, 20]),
             ("close", &[0, 2, 3, 20]),
             ("drop", &[0, 2, 3, 20]),
             ("benchmark", &[0, 1, 3, 5, 20]),

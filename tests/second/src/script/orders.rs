@@ -128,14 +128,17 @@ impl Writer {
         } else {
             self.code_in(State::Empty, 1_000)
         };
-        if self.book.t().is_none() {
-            match self.book.state(code) {
-                None => self.note("order: open 6 before 10"),
-                Some(State::Empty) => self.note("order: open 9 before 10"),
-                Some(_) => {}
+        for call in ["open", "ask"] {
+            if self.book.t().is_none() {
+                match self.book.state(code) {
+                    None => self.note(&format!("order: {call} 6 before 10")),
+                    Some(State::Empty) => self.note(&format!("order: {call} 9 before 10")),
+                    Some(_) => {}
+                }
             }
         }
         self.open(code);
+        self.ask(code);
     }
 
     fn question_with_two_faults(&mut self) {

@@ -217,7 +217,7 @@ impl Writer {
     /// a sheet with lower network costs there, or with a mill more.
     fn at_the_cap_and_over(&mut self, code: u32, mut record: [u32; RECORD], region: u32) {
         self.put(code, &record);
-        self.open(code);
+        self.open_by_either_road(code);
         self.quote_in_two_regions(code, region);
         if self.random.one_in(2) {
             let mut dated = self.sheet.clone();
@@ -233,12 +233,12 @@ impl Writer {
         self.close(code);
         record[place_of(region)] += 1;
         self.put(code, &record);
-        self.open(code);
+        self.open_by_either_road(code);
         self.follow_breach();
         if self.random.one_in(2) {
             record[place_of(region)] -= 1;
             self.put(code, &record);
-            self.open(code);
+            self.open_by_either_road(code);
         }
     }
 

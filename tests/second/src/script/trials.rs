@@ -158,7 +158,7 @@ impl Writer {
                 self.random_bit(fallen) + 1
             };
             let used = matches!(self.book.state(code), Some(State::Draft | State::Open));
-            match self.random.below(8) {
+            match self.random.below(9) {
                 0 => self.take_plain(Turn::Benchmark),
                 1 => self.take_plain(Turn::Maximum),
                 2 => self.drop_code(code),
@@ -168,6 +168,8 @@ impl Writer {
                 }
                 4 => self.open(code),
                 5..=6 if used => self.plain_quote(code),
+                7 if self.random.one_in(2) => self.ask(code),
+                7 => self.confirm(code),
                 _ => {
                     self.close(code);
                     self.open(code);

@@ -109,7 +109,7 @@ impl Writer {
     }
 
     /// A sheet that SET takes, most of the time, and that is near the one in force.
-    fn other_sheet(&mut self) -> Dated {
+    pub(super) fn other_sheet(&mut self) -> Dated {
         let mut dated = self.sheet.clone();
         match self.random.below(9) {
             0 => {}
@@ -142,7 +142,7 @@ impl Writer {
         }
     }
 
-    fn good_or_bad_sheet(&mut self) -> Dated {
+    pub(super) fn good_or_bad_sheet(&mut self) -> Dated {
         let mut dated = self.other_sheet();
         if self.random.one_in(2) {
             self.spoil(&mut dated);
@@ -153,7 +153,7 @@ impl Writer {
     /// A call of any kind, taken or refused, or a line that is no call.
     fn any_call(&mut self) {
         let code = self.any_code();
-        match self.random.below(11) {
+        match self.random.below(13) {
             0 => {
                 let dated = self.good_or_bad_sheet();
                 self.set(&dated);
@@ -173,21 +173,17 @@ impl Writer {
             7 => self.no_call(),
             8 => self.take(Turn::Benchmark),
             9 => self.take(Turn::Maximum),
+            10 => self.ask(code),
+            11 => self.confirm(code),
             _ => self.take(Turn::Quote),
         }
     }
 
     /// A line that is no call, or a call that changes nothing: a question, or one that is refused.
-    fn call_that_changes_nothing(&mut self) {
+    pub(super) fn call_that_changes_nothing(&mut self) {
         let code = self.any_code();
-        match self.random.below(10) {
-            0 => {
-                let mut dated = self.other_sheet();
-                self.spoil(&mut dated);
-                if Book::new().set_dated(&dated).is_err() {
-                    self.set(&dated);
-                }
-            }
+        match self.random.below(12) {
+            0 => self.refused_set(),
             1 => {
                 let dated = self.good_or_bad_sheet();
                 let _ = self.trial(&dated);
@@ -204,11 +200,22 @@ impl Writer {
             6 => self.no_call(),
             7 => self.take(Turn::Benchmark),
             8 => self.take(Turn::Maximum),
+            9 if self.book.clone().ask(code).is_err() => self.ask(code),
+            10 if self.book.clone().confirm(code).is_err() => self.confirm(code),
             _ => self.take(Turn::Quote),
         }
     }
 
-    fn no_call(&mut self) {
+    /// A sheet near the one in force that SET refuses, most of the time.
+    pub(super) fn refused_set(&mut self) {
+        let mut dated = self.other_sheet();
+        self.spoil(&mut dated);
+        if Book::new().set_dated(&dated).is_err() {
+            self.set(&dated);
+        }
+    }
+
+    pub(super) fn no_call(&mut self) {
         let line = match self.random.below(5) {
             0 => b"# undo".to_vec(),
             1 => b"undo 1".to_vec(),

@@ -1,4 +1,4 @@
-// The answers of the ten calls, as text in a buffer that the caller lends.
+// The answers of the twelve calls, as text in a buffer that the caller lends.
 // Promise: each function puts exactly the text that specs/Answers.antt defines (`Puts` of texts). The layer above may use `put_reply`, for a
 // call that may change the book, and `put_told`, for one that tells of it; they require `answerRoom` and `shortRoom`, room for the longest
 // answer of each.

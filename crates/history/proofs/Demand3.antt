@@ -1,6 +1,6 @@
 -- Demand 3 holds: after any list of calls, of what its checks read from the calls alone (Readings.antt).
 -- Assumes nothing.
-use mathlib.Core.Path.{_≡_, refl, sym, _∙_, ap, ap₂, subst}
+use mathlib.Core.Path.{_≡_, refl, sym, _∙_, ap, subst}
 use mathlib.Core.Bool.{Bool, true, false, cond, _||_}
 use mathlib.Core.Logic.{inl, inr}
 use mathlib.Core.List.{List, [], _∷_, _++_}
@@ -14,7 +14,7 @@ use Rattle.tariff.specs.declared.Tariff.{Tariff}
 use Rattle.tariff.specs.Tariff.{validTariff}
 use Rattle.verdict.specs.Cells.{Cell, Offered}
 use Rattle.book.specs.declared.Book.{Book}
-use Rattle.book.specs.Calls.{Sheet, Act, SET, OPEN, CONFIRM, Call, call, isAccepted}
+use Rattle.book.specs.Calls.{Sheet, Act, SET, CONFIRM, Call, call, isAccepted}
 use Rattle.book.specs.Checks.{inside, setAnswer, answer}
 use Rattle.book.specs.Book.{tariffIn, fresh, placeOf, holding, held, inForce, bookReadings, step, bookAfter, answersOf, Reachable}
 use Rattle.book.proofs.Places.{held-inside}

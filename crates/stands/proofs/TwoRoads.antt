@@ -2,9 +2,9 @@
 -- Assumes nothing.
 use mathlib.Core.Path.{_≡_, refl, sym, _∙_, ap}
 use mathlib.Core.Bool.{Bool, true, false, cond}
-use mathlib.Core.List.{List, [], _∷_}
+use mathlib.Core.List.{List}
 use Prim.Native.Nat.{ℕ, zero, suc}
-use lib.ListN.{set}
+use lib.Seq.{set-set}
 use borrow.Author.Tests.{eq-eqb}
 use Rattle.refusal.specs.Checks.{need}
 use Rattle.verdict.specs.Cells.{cellCount}
@@ -22,14 +22,9 @@ use Rattle.stands.specs.Roads.{askedThenConfirmed, TwoRoads}
 use Rattle.stands.proofs.Kept.{held-fits, reachable-fits}
 
 -- a place set twice
-set-twice : (ps : List Place) (i : ℕ) (p q : Place) → set (set ps i p) i q ≡ set ps i q
-set-twice [] i p q = refl
-set-twice (r ∷ ps) zero p q = refl
-set-twice (r ∷ ps) (suc i) p q = ap (_∷_ r) (set-twice ps i p q)
-
 place-twice : (ps : List Place) (k : ℕ) (p q : Place) → setPlace (setPlace ps k p) k q ≡ setPlace ps k q
 place-twice ps zero p q = refl
-place-twice ps (suc i) p q = set-twice ps i p q
+place-twice ps (suc i) p q = set-set ps i p q
 
 module _ (b : Book) (from : Reachable b) (k : ℕ) where
   abbrev p : Place

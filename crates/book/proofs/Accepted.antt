@@ -12,7 +12,7 @@ use Rattle.refusal.specs.Checks.{checked, need, given}
 use Rattle.tariff.specs.Tariff.{recordCheck}
 use Rattle.verdict.specs.Cells.{Cell, cellCount, verdictAt, verdict, firstOver}
 use Rattle.book.specs.Calls.{Sheet, Record, Answer, accepted, cells, refused, isAccepted}
-use Rattle.book.specs.Checks.{Holding, isOpen, figuresOf, inside, verdictAnswer, putAnswer, openAnswer, closeAnswer, dropAnswer, confirmAnswer}
+use Rattle.book.specs.Checks.{Holding, isOpen, figuresOf, inside, verdictAnswer, mayUseHeld, putAnswer, openAnswer, closeAnswer, dropAnswer, confirmAnswer}
 
 pub checked-accepted : (c : Check) (a : Answer) → isAccepted (checked refused c a) ≡ true → (c ≡ Pass) × (isAccepted a ≡ true)
 checked-accepted Pass a e = (refl, e)
@@ -33,56 +33,60 @@ verdict-accepted s h none q e = q
 verdict-accepted s h (some c) q e = never (cc)
 
 -- PUT: the code is in range, and the record passes refusal 8
-pub put-accepted : (k : ℕ) (held : Option Holding) (x : Record) → isAccepted (putAnswer k held x) ≡ true
+pub put-accepted : (desk k : ℕ) (held : Option Holding) (x : Record) → isAccepted (putAnswer desk k held x) ≡ true
     → (inside k ≡ true) × (recordCheck x ≡ Pass)
-put-accepted k held x e =
+put-accepted desk k held x e =
     let f = need-accepted (inside k) 6 _ e in
     let g = need-accepted (not (isOpen held)) 7 _ (f .1) in
-    (f .0, checked-accepted (recordCheck x) accepted (g .1) .0)
+    (f .0, checked-accepted (recordCheck x) _ (g .1) .0)
 
 -- CLOSE and DROP: the code is in range, and CLOSE's place holds an open tariff
-pub close-accepted : (k : ℕ) (held : Option Holding) → isAccepted (closeAnswer k held) ≡ true
+pub close-accepted : (desk k : ℕ) (held : Option Holding) → isAccepted (closeAnswer desk k held) ≡ true
     → (inside k ≡ true) × (h : Holding) × (held ≡ some h) × (h .isOpen ≡ true)
-close-accepted k held e =
+close-accepted desk k held e =
     let f = need-accepted (inside k) 6 _ e in
     let g = given-accepted held 9 _ (f .1) in
-    (f .0, g .0, g .1, need-accepted (g .0 .isOpen) 12 accepted (g .2) .0)
+    let m = need-accepted (mayUseHeld desk (g .0)) 17 _ (g .2) in
+    (f .0, g .0, g .1, need-accepted (g .0 .isOpen) 12 accepted (m .1) .0)
 
-pub drop-accepted : (k : ℕ) (held : Option Holding) → isAccepted (dropAnswer k held) ≡ true → inside k ≡ true
-drop-accepted k held e = need-accepted (inside k) 6 _ e .0
+pub drop-accepted : (desk k : ℕ) (held : Option Holding) → isAccepted (dropAnswer desk k held) ≡ true → inside k ≡ true
+drop-accepted desk k held e = need-accepted (inside k) 6 _ e .0
 
 -- CONFIRM: the code is in range, and its place holds a marked draft
-pub confirm-accepted : (k : ℕ) (held : Option Holding) → isAccepted (confirmAnswer k held) ≡ true
+pub confirm-accepted : (desk k : ℕ) (held : Option Holding) → isAccepted (confirmAnswer desk k held) ≡ true
     → (inside k ≡ true) × (h : Holding) × (held ≡ some h) × (h .isMarked ≡ true)
-confirm-accepted k held e =
+confirm-accepted desk k held e =
     let f = need-accepted (inside k) 6 _ e in
     let g = given-accepted held 9 _ (f .1) in
-    let d = need-accepted (not (g .0 .isOpen)) 7 _ (g .2) in
+    let m = need-accepted (mayUseHeld desk (g .0)) 17 _ (g .2) in
+    let d = need-accepted (not (g .0 .isOpen)) 7 _ (m .1) in
     (f .0, g .0, g .1, need-accepted (g .0 .isMarked) 16 _ (d .1) .0)
 
 -- OPEN and ASK: a sheet is in force, with it the tariff exceeds nowhere, and the answer is the number of its cells
-pub record Opens (k : ℕ) (held : Option Holding) (sheet : Option Sheet) : Type 0 where
+pub record Opens (desk k : ℕ) (held : Option Holding) (sheet : Option Sheet) : Type 0 where
   pub code : inside k ≡ true
   pub h : Holding
   pub its : held ≡ some h
+  pub may : mayUseHeld desk h ≡ true
   pub shut : h .isOpen ≡ false
   pub s : Sheet
   pub in-force : sheet ≡ some s
   pub none-over : firstOver (figuresOf s) (h .tariff) ≡ none
-  pub answers : openAnswer k held sheet ≡ cells (cellCount (h .tariff))
+  pub answers : openAnswer desk k held sheet ≡ cells (cellCount (h .tariff))
 
-with-cells : (k : ℕ) (held : Option Holding) (sheet : Option Sheet) (h : Holding) (s : Sheet)
-    → inside k ≡ true → held ≡ some h → not (h .isOpen) ≡ true → sheet ≡ some s → firstOver (figuresOf s) (h .tariff) ≡ none
-    → openAnswer k held sheet ≡ cells (cellCount (h .tariff))
+with-cells : (desk k : ℕ) (held : Option Holding) (sheet : Option Sheet) (h : Holding) (s : Sheet)
+    → inside k ≡ true → held ≡ some h → mayUseHeld desk h ≡ true → not (h .isOpen) ≡ true → sheet ≡ some s → firstOver (figuresOf s) (h .tariff) ≡ none
+    → openAnswer desk k held sheet ≡ cells (cellCount (h .tariff))
 unfolding verdict
-with-cells k held sheet h s i g o f v = rw (i, g, o, f, v)
+with-cells desk k held sheet h s i g m o f v = rw (i, g, m, o, f, v)
 
-pub open-accepted : (k : ℕ) (held : Option Holding) (sheet : Option Sheet) → isAccepted (openAnswer k held sheet) ≡ true → Opens k held sheet
+pub open-accepted : (desk k : ℕ) (held : Option Holding) (sheet : Option Sheet) → isAccepted (openAnswer desk k held sheet) ≡ true → Opens desk k held sheet
 unfolding verdict
-open-accepted k held sheet e =
+open-accepted desk k held sheet e =
     let f = need-accepted (inside k) 6 _ e in
     let g = given-accepted held 9 _ (f .1) in
-    let d = need-accepted (not (g .0 .isOpen)) 7 _ (g .2) in
+    let m = need-accepted (mayUseHeld desk (g .0)) 17 _ (g .2) in
+    let d = need-accepted (not (g .0 .isOpen)) 7 _ (m .1) in
     let i = given-accepted sheet 10 _ (d .1) in
     let v = verdict-accepted (i .0) (g .0) (firstOver (figuresOf (i .0)) (g .0 .tariff)) refl (i .2) in
-    record { code = f .0; h = g .0; its = g .1; shut = not-true (g .0 .isOpen) (d .0); s = i .0; in-force = i .1; none-over = v; answers = with-cells k held sheet (g .0) (i .0) (f .0) (g .1) (d .0) (i .1) v }
+    record { code = f .0; h = g .0; its = g .1; may = m .0; shut = not-true (g .0 .isOpen) (d .0); s = i .0; in-force = i .1; none-over = v; answers = with-cells desk k held sheet (g .0) (i .0) (f .0) (g .1) (m .0) (d .0) (i .1) v }

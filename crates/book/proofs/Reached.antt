@@ -3,6 +3,7 @@
 use mathlib.Core.Path.{_≡_, refl, sym, _∙_, ap, subst}
 use mathlib.Core.Bool.{Bool, true, false, cond}
 use mathlib.Core.List.{List, [], _∷_, _++_}
+use Prim.Native.Nat.{ℕ}
 use Rattle.book.specs.declared.Book.{Book}
 use Rattle.book.specs.declared.Done.{Done}
 use Rattle.book.specs.Calls.{Act, Call, isAccepted}
@@ -36,13 +37,13 @@ does-reachable {b} {c} {r} h d = subst Reachable (sym (d .leaves)) (step-reachab
 
 -- what holds of a fresh book and is kept by every accepted call holds of every reachable book
 module _ (P : Book → Type 0) (start : P fresh)
-    (keeps : (b : Book) → P b → (a : Act) → isAccepted (answer (bookReadings b) a) ≡ true → P (changed b a)) where
+    (keeps : (b : Book) → P b → (desk : ℕ) (a : Act) → isAccepted (answer desk (bookReadings b) a) ≡ true → P (changed b a)) where
   kept-step : (b : Book) → P b → (c : Call) → P (step b c .book)
   unfolding step
-  kept-step b h c = go (isAccepted (answer (bookReadings b) (c .act))) refl
+  kept-step b h c = go (isAccepted (answer (c .desk) (bookReadings b) (c .act))) refl
     where
-      go : (t : Bool) → isAccepted (answer (bookReadings b) (c .act)) ≡ t → P (cond t (changed b (c .act)) b)
-      go true e = keeps b h (c .act) e
+      go : (t : Bool) → isAccepted (answer (c .desk) (bookReadings b) (c .act)) ≡ t → P (cond t (changed b (c .act)) b)
+      go true e = keeps b h (c .desk) (c .act) e
       go false e = h
 
   kept-after : (cs : List Call) (b : Book) → P b → P (bookAfter b cs)

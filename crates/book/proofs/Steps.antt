@@ -25,23 +25,23 @@ use Rattle.book.specs.Settling.{codeCheck, settledBy, doneBy, acceptedBy
 
 -- "Any call refused changes nothing", and the book after an accepted one
 module _ (b : Book) (c : Call) (a : Answer) where
-  pub unchanged : answer (bookReadings b) (c .act) ≡ a → isAccepted a ≡ false → step b c .book ≡ b
+  pub unchanged : answer (c .desk) (bookReadings b) (c .act) ≡ a → isAccepted a ≡ false → step b c .book ≡ b
   unfolding step
   unchanged e f = ap (λ d. after d b (c .act)) e ∙ ap (λ t. cond t (changed b (c .act)) b) f
 
-  pub made : answer (bookReadings b) (c .act) ≡ a → isAccepted a ≡ true → step b c .book ≡ changed b (c .act)
+  pub made : answer (c .desk) (bookReadings b) (c .act) ≡ a → isAccepted a ≡ true → step b c .book ≡ changed b (c .act)
   unfolding step
   made e f = ap (λ d. after d b (c .act)) e ∙ ap (λ t. cond t (changed b (c .act)) b) f
 
-pub answered-by : (b : Book) (c : Call) → step b c .answer ≡ answer (bookReadings b) (c .act)
+pub answered-by : (b : Book) (c : Call) → step b c .answer ≡ answer (c .desk) (bookReadings b) (c .act)
 unfolding step
 answered-by b c = refl
 
 -- SET and UNDO, which their checks alone decide: refused, or accepted with the book that the call leaves
-module _ (b : Book) (c : Call) (checks : Check) (by : answer (bookReadings b) (c .act) ≡ checked refused checks accepted) where
+module _ (b : Book) (c : Call) (checks : Check) (by : answer (c .desk) (bookReadings b) (c .act) ≡ checked refused checks accepted) where
   pub refuses : (check : Check) (n : ℕ) → check ≡ checks → check ≡ Refuse n → Does b c (doneBy check b)
   refuses check n e f =
-      let a : answer (bookReadings b) (c .act) ≡ refused n = by ∙ ap (λ k. checked refused k accepted) (sym e ∙ f) in
+      let a : answer (c .desk) (bookReadings b) (c .act) ≡ refused n = by ∙ ap (λ k. checked refused k accepted) (sym e ∙ f) in
       rw f
       (record {
         answers = sym (answered-by b c ∙ a);
@@ -51,7 +51,7 @@ module _ (b : Book) (c : Call) (checks : Check) (by : answer (bookReadings b) (c
 
   pub accepts : (check : Check) → check ≡ checks → check ≡ Pass → (d : Book) → d ≡ changed b (c .act) → Does b c (doneBy check d)
   accepts check e f d g =
-      let a : answer (bookReadings b) (c .act) ≡ accepted = by ∙ ap (λ k. checked refused k accepted) (sym e ∙ f) in
+      let a : answer (c .desk) (bookReadings b) (c .act) ≡ accepted = by ∙ ap (λ k. checked refused k accepted) (sym e ∙ f) in
       rw f
       (record {
         answers = sym (answered-by b c ∙ a);
@@ -100,7 +100,7 @@ module _ (b : Book) (k at : ℕ) (p : Place) (index : inside k ≡ true → suc 
 
   -- a call on that place does what its settling says
   pub settles-does : (c : Call) (rest : Check) (next : Answer) (f : Place → Place) (r : Settled)
-      → answer (bookReadings b) (c .act) ≡ checked refused (first (codeCheck k) rest) next
+      → answer (c .desk) (bookReadings b) (c .act) ≡ checked refused (first (codeCheck k) rest) next
       → changed b (c .act) ≡ withPlace b k (f (placeOf (b .places) k))
       → Settles (first (codeCheck k) rest) next p (f p) r → Does b c (settledIn b at r)
   settles-does c rest next f r e g h =

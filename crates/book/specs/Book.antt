@@ -156,7 +156,7 @@ abbrev pub after : Answer → Book → Act → Book
 after a b c = cond (isAccepted a) (changed b c) b
 
 unfoldable pub step : Book → Call → Effect
-step b c = let a = answer (bookReadings b) (c .act) in record { answer = a; book = after a b (c .act) }
+step b c = let a = answer (c .desk) (bookReadings b) (c .act) in record { answer = a; book = after a b (c .act) }
 
 -- a list of calls, "each later one the book that the call before it returned"
 unfoldable pub bookAfter : Book → List Call → Book

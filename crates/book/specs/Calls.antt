@@ -1,4 +1,4 @@
--- The calls of a list and their answers, as document 01 names them.
+-- The calls of a list, each with its desk (document 02, M-107), and their answers, as document 01 names them.
 -- Assumes nothing.
 use mathlib.Core.Bool.{Bool, true, false}
 use mathlib.Core.List.{List}
@@ -6,6 +6,7 @@ use mathlib.Core.Option.{Option, none, some}
 use Prim.Native.Nat.{ℕ}
 use lib.IntN.{ℤ}
 use Rattle.calendar.specs.declared.Period.{Period}
+use Rattle.desks.specs.Desks.{allFourteen}
 use Rattle.verdict.specs.Cells.{Cell}
 
 -- the numbers handed in, of any count and content: a sheet with its period, a tariff's record
@@ -30,12 +31,16 @@ pub data Act : Type 0 where
   ASK : ℕ → Act
   CONFIRM : ℕ → Act
 
--- a call: an act; whose call it is makes no difference
+-- a call: "a set of regions", the desk whose call it is, and what it asks; a call of a desk with all fourteen
 pub record Call : Type 0 where
+  pub desk : ℕ
   pub act : Act
 
+abbrev pub by : ℕ → Act → Call
+by desk a = record { desk = desk; act = a }
+
 abbrev pub call : Act → Call
-call a = record { act = a }
+call a = by allFourteen a
 
 -- "answers only that it was accepted"; accepted with "the number of cells", of OPEN, ASK and CONFIRM; "a refusal returns its number, with 11
 -- the figures named": the cell, the months and the excess

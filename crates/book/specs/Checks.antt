@@ -1,6 +1,6 @@
 -- The checks of SET, PUT, OPEN, CLOSE, DROP, UNDO, ASK and CONFIRM: a line a call, in the order of documents 01 and 02.
 -- Assumes nothing.
-use mathlib.Core.Bool.{Bool, false, not, _&&_}
+use mathlib.Core.Bool.{Bool, true, false, not, _&&_, _||_}
 use mathlib.Core.Option.{Option, none, some}
 use Prim.Native.Nat.{ℕ}
 use lib.Dec.{leb}
@@ -8,7 +8,8 @@ use Rattle.refusal.specs.Checks.{checked, need, given}
 use Rattle.benchmark.specs.declared.Benchmarks.{Benchmarks}
 use Rattle.benchmark.specs.Benchmark.{benchmarksOf, setCheck}
 use Rattle.tariff.specs.declared.Tariff.{Tariff}
-use Rattle.tariff.specs.Tariff.{recordCheck}
+use Rattle.tariff.specs.Tariff.{tariffOf, recordCheck}
+use Rattle.desks.specs.Desks.{isFull, covers, mayUse}
 use Rattle.verdict.specs.Cells.{Verdict, opens, cellCount, verdict, firstOver}
 use Rattle.verdict.specs.Cells as verdicts
 use Rattle.book.specs.Calls.{Sheet, Record, Act, SET, PUT, OPEN, CLOSE, DROP, UNDO, ASK, CONFIRM, Answer, accepted, cells, refused, over, isNone}
@@ -47,47 +48,65 @@ abbrev pub verdictAnswer : Verdict → Answer
 verdictAnswer (opens n) = cells n
 verdictAnswer (verdicts.over c months e) = over c months e
 
--- SET: 1 to 4, 14 and 5
-abbrev pub setAnswer : Sheet → Answer
-setAnswer s = checked refused (setCheck (s .fields) (s .period)) accepted
+-- 17, "outside the desk": of a call on a code, its tariff is not offered in the desk's regions alone. PUT "looks at the old draft and the new
+-- tariff"
+abbrev pub mayUseHeld : ℕ → Holding → Bool
+mayUseHeld desk h = mayUse desk (h .tariff .regions)
 
--- PUT. 6: code outside 1 to 32. 7: the place is open. 8: not such a record
-abbrev pub putAnswer : ℕ → Option Holding → Record → Answer
-putAnswer k held x = need refused (inside k) 6 (need refused (not (isOpen held)) 7 (checked refused (recordCheck x) accepted))
+abbrev pub coversDraft : ℕ → Option Holding → Bool
+coversDraft desk none = true
+coversDraft desk (some h) = covers desk (h .tariff .regions)
 
--- OPEN, and ASK, which "does the checks of OPEN, with its refusals". 6. 9: the place is empty. 7. 10: no sheet. 11
-abbrev pub openAnswer : ℕ → Option Holding → Option Sheet → Answer
-openAnswer k held sheet =
+abbrev pub mayPut : ℕ → Option Holding → Record → Bool
+mayPut desk held x = isFull desk || (coversDraft desk held && covers desk (tariffOf x .regions))
+
+-- SET: 17: "Only a desk with all fourteen". 1 to 4, 14 and 5
+abbrev pub setAnswer : ℕ → Sheet → Answer
+setAnswer desk s = need refused (isFull desk) 17 (checked refused (setCheck (s .fields) (s .period)) accepted)
+
+-- PUT. 6: code outside 1 to 32. 7: the place is open. 8: not such a record. 17
+abbrev pub putAnswer : ℕ → ℕ → Option Holding → Record → Answer
+putAnswer desk k held x =
+    need refused (inside k) 6
+    (need refused (not (isOpen held)) 7 (checked refused (recordCheck x) (need refused (mayPut desk held x) 17 accepted)))
+
+-- OPEN, and ASK, which "does the checks of OPEN, with its refusals". 6. 9: the place is empty. 17. 7. 10: no sheet. 11
+abbrev pub openAnswer : ℕ → ℕ → Option Holding → Option Sheet → Answer
+openAnswer desk k held sheet =
     need refused (inside k) 6
     (given refused held 9
-    (λ h. need refused (not (h .isOpen)) 7 (given refused sheet 10 (λ s. verdictAnswer (verdict (figuresOf s) (h .tariff))))))
+    (λ h. need refused (mayUseHeld desk h) 17
+    (need refused (not (h .isOpen)) 7 (given refused sheet 10 (λ s. verdictAnswer (verdict (figuresOf s) (h .tariff)))))))
 
--- CLOSE. 6. 9. 12: not open
-abbrev pub closeAnswer : ℕ → Option Holding → Answer
-closeAnswer k held = need refused (inside k) 6 (given refused held 9 (λ h. need refused (h .isOpen) 12 accepted))
+-- CLOSE. 6. 9. 17. 12: not open
+abbrev pub closeAnswer : ℕ → ℕ → Option Holding → Answer
+closeAnswer desk k held =
+    need refused (inside k) 6 (given refused held 9 (λ h. need refused (mayUseHeld desk h) 17 (need refused (h .isOpen) 12 accepted)))
 
--- DROP. 6. 9. 7
-abbrev pub dropAnswer : ℕ → Option Holding → Answer
-dropAnswer k held = need refused (inside k) 6 (given refused held 9 (λ h. need refused (not (h .isOpen)) 7 accepted))
+-- DROP. 6. 9. 17. 7
+abbrev pub dropAnswer : ℕ → ℕ → Option Holding → Answer
+dropAnswer desk k held =
+    need refused (inside k) 6 (given refused held 9 (λ h. need refused (mayUseHeld desk h) 17 (need refused (not (h .isOpen)) 7 accepted)))
 
--- UNDO. 15: nothing to take back
-abbrev pub undoAnswer : Bool → Answer
-undoAnswer mayUndo = need refused mayUndo 15 accepted
+-- UNDO. 17, as of SET. 15: nothing to take back
+abbrev pub undoAnswer : ℕ → Bool → Answer
+undoAnswer desk mayUndo = need refused (isFull desk) 17 (need refused mayUndo 15 accepted)
 
--- CONFIRM. 6. 9. 7. 16: the draft is not marked. "Both answer the number of cells, as OPEN does"
-abbrev pub confirmAnswer : ℕ → Option Holding → Answer
-confirmAnswer k held =
+-- CONFIRM. 6. 9. 17. 7. 16: the draft is not marked. "Both answer the number of cells, as OPEN does"
+abbrev pub confirmAnswer : ℕ → ℕ → Option Holding → Answer
+confirmAnswer desk k held =
     need refused (inside k) 6
     (given refused held 9
-    (λ h. need refused (not (h .isOpen)) 7 (need refused (h .isMarked) 16 (cells (cellCount (h .tariff))))))
+    (λ h. need refused (mayUseHeld desk h) 17
+    (need refused (not (h .isOpen)) 7 (need refused (h .isMarked) 16 (cells (cellCount (h .tariff)))))))
 
--- the answer that the checks of a call give for such readings
-abbrev pub answer : Readings → Act → Answer
-answer r (SET s) = setAnswer s
-answer r (PUT k x) = putAnswer k (r .held k) x
-answer r (OPEN k) = openAnswer k (r .held k) (r .sheet)
-answer r (CLOSE k) = closeAnswer k (r .held k)
-answer r (DROP k) = dropAnswer k (r .held k)
-answer r UNDO = undoAnswer (r .mayUndo)
-answer r (ASK k) = openAnswer k (r .held k) (r .sheet)
-answer r (CONFIRM k) = confirmAnswer k (r .held k)
+-- the answer that the checks of a desk's call give for such readings
+abbrev pub answer : ℕ → Readings → Act → Answer
+answer desk r (SET s) = setAnswer desk s
+answer desk r (PUT k x) = putAnswer desk k (r .held k) x
+answer desk r (OPEN k) = openAnswer desk k (r .held k) (r .sheet)
+answer desk r (CLOSE k) = closeAnswer desk k (r .held k)
+answer desk r (DROP k) = dropAnswer desk k (r .held k)
+answer desk r UNDO = undoAnswer desk (r .mayUndo)
+answer desk r (ASK k) = openAnswer desk k (r .held k) (r .sheet)
+answer desk r (CONFIRM k) = confirmAnswer desk k (r .held k)

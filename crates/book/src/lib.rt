@@ -1,14 +1,10 @@
-// The tariff book: 32 places and a sheet in force, and what every call opens: its checks, the place of a code and the answer.
+// The tariff book: 32 places and a sheet in force, and what every call opens: its places and its answer. The checks are in crate checks.
 // Promise: specs/Book.antt says what each call answers and leaves (`step`), and `Does` of specs/Promises.antt is what a call promises of it.
-// What the layer above may use: the types, the checks, `settled_by` and `answered`; proofs/Steps.antt, which turns what a call's checks came
+// What the layer above may use: the types, `settled_by` and `answered`; proofs/Steps.antt, which turns what a call's checks came
 // to into `Does`; and proofs/Reached.antt, lists of calls. The book goes into a call by value and comes back.
 ghost use mathlib.Core.Path.{_≡_};
-ghost use mathlib.Core.Bool.{true, _&&_};
-ghost use Prim.Native.Nat.{suc, _<_};
-ghost use Rattle.refusal.specs.declared.Check.the-variants.{Pass};
-ghost use Rattle.refusal.specs.Checks.{unless};
-ghost use Rattle.book.specs.Checks.{inside};
-ghost use Rattle.book.specs.Settling.{codeCheck, emptyCheck, openCheck, closedCheck, markCheck, heldCheck, replyOf, settledBy, doneBy, acceptedBy};
+ghost use mathlib.Core.Bool.{_&&_};
+ghost use Rattle.book.specs.Settling.{replyOf, settledBy, doneBy, acceptedBy};
 ghost use Rattle.book.specs.Book.{empty, fresh, nothingKept, placeWith, tariffIn, withState};
 use benchmark::Benchmarks;
 use calendar::Period;
@@ -188,101 +184,6 @@ pub fn fresh_book() -> Book
         places: [empty_place(); 32],
         kept: nothing_kept(),
     }
-}
-
-// 6: code outside 1 to 32.
-pub fn code_check(code: u32) -> Check
-    ensures { λ r. ⌜ r ≡ codeCheck code ⌝ }
-{
-    if code < 1 {
-        return Check::Refuse(6);
-    }
-    if 32 < code {
-        return Check::Refuse(6);
-    }
-    Check::Pass
-}
-
-// 9: the place is empty.
-pub fn empty_check(p: Place) -> Check
-    ensures { λ r. ⌜ r ≡ emptyCheck (p .state) ⌝ }
-{
-    let state = p.state;
-    match state {
-        State::Empty => Check::Refuse(9),
-        State::Draft => Check::Pass,
-        State::Marked => Check::Pass,
-        State::Open => Check::Pass,
-    }
-}
-
-// 7: the place is open.
-pub fn open_check(p: Place) -> Check
-    ensures { λ r. ⌜ r ≡ openCheck (p .state) ⌝ }
-{
-    let state = p.state;
-    match state {
-        State::Empty => Check::Pass,
-        State::Draft => Check::Pass,
-        State::Marked => Check::Pass,
-        State::Open => Check::Refuse(7),
-    }
-}
-
-// 12: not open.
-pub fn closed_check(p: Place) -> Check
-    ensures { λ r. ⌜ r ≡ closedCheck (p .state) ⌝ }
-{
-    let state = p.state;
-    match state {
-        State::Empty => Check::Refuse(12),
-        State::Draft => Check::Refuse(12),
-        State::Marked => Check::Refuse(12),
-        State::Open => Check::Pass,
-    }
-}
-
-// 16: the draft is not marked.
-pub fn mark_check(p: Place) -> Check
-    ensures { λ r. ⌜ r ≡ markCheck (p .state) ⌝ }
-{
-    let state = p.state;
-    match state {
-        State::Empty => Check::Refuse(16),
-        State::Draft => Check::Refuse(16),
-        State::Marked => Check::Pass,
-        State::Open => Check::Refuse(16),
-    }
-}
-
-// 10: no sheet.
-pub fn sheet_check(loaded: bool) -> Check
-    ensures { λ r. ⌜ r ≡ unless loaded 10 Pass ⌝ }
-{
-    if loaded {
-        Check::Pass
-    } else {
-        Check::Refuse(10)
-    }
-}
-
-// 6 and 9, and then what a call on the place of a code checks besides.
-pub fn held_check(code: u32, p: Place, next: Check) -> Check
-    ensures { λ r. ⌜ r ≡ heldCheck code (p .state) next ⌝ }
-{
-    let filled = refusal::first(empty_check(p), next);
-    refusal::first(code_check(code), filled)
-}
-
-// The index of a code's place. A code outside 1 to 32 has none: no call passes its check, and any index serves.
-pub fn index_of(code: u32) -> usize
-    ensures { λ r. ⌜ (r < 32) × (inside code ≡ true → suc r ≡ code) ⌝ }
-{
-    let inside = code_check(code);
-    let Check::Pass = inside else {
-        return 0;
-    };
-    (code - 1) as usize
 }
 
 // The answer of a call's checks: accepted, or the refusal's number.

@@ -1,5 +1,5 @@
--- How the code goes about OPEN, CLOSE, DROP, ASK and CONFIRM, the calls on a code that take nothing else, and about PUT: the act, its checks
--- as one, the answer behind them and the place that it leaves.
+-- How the code goes about OPEN, CLOSE, DROP, ASK and CONFIRM, the calls on a code that take nothing else: the act, its checks as one, the answer
+-- behind them and the place that it leaves.
 -- Assumes nothing.
 use mathlib.Core.Path.{_≡_}
 use mathlib.Core.Bool.{Bool, true}
@@ -9,17 +9,17 @@ use Rattle.refusal.specs.declared.Check.the-variants.{Pass}
 use Rattle.refusal.specs.Checks.{unless, first}
 use Rattle.benchmark.specs.declared.Benchmarks.{Benchmarks}
 use Rattle.benchmark.specs.Lawful.{Lawful}
-use Rattle.tariff.specs.Tariff.{recordCheck}
+use Rattle.desks.specs.Desks.{mayUse}
 use Rattle.verdict.specs.Cells.{cellCount, verdict}
 use Rattle.book.specs.declared.State.{State}
 use Rattle.book.specs.declared.State.the-variants as state
 use Rattle.book.specs.declared.Place.{Place}
 use Rattle.book.specs.declared.Settled.{Settled}
 use Rattle.book.specs.declared.Book.{Book}
-use Rattle.book.specs.Calls.{Record, Act, OPEN, CLOSE, DROP, ASK, CONFIRM, Answer, accepted, cells}
+use Rattle.book.specs.Calls.{Act, OPEN, CLOSE, DROP, ASK, CONFIRM, Answer, accepted, cells}
 use Rattle.book.specs.Checks.{verdictAnswer}
 use Rattle.book.specs.Book.{empty, tariffIn, withState, Reachable}
-use Rattle.book.specs.Settling.{codeCheck, openCheck, closedCheck, markCheck, heldCheck, Settles}
+use Rattle.book.specs.Settling.{openCheck, closedCheck, markCheck, heldCheck, Settles}
 use Rattle.stands.specs.Stands.{HoldsValid}
 use Rattle.codes.specs.declared.CodeAct.{CodeAct}
 use Rattle.codes.specs.declared.CodeAct.the-variants.{Open, Close, Drop, Ask, Confirm}
@@ -31,7 +31,11 @@ actOn Drop k = DROP k
 actOn Ask k = ASK k
 actOn Confirm k = CONFIRM k
 
--- behind 6 and 9: of OPEN and ASK, and of each
+-- 6, 9 and 17, and then the checks of a call's own
+abbrev pub usableCheck : ℕ → ℕ → Place → Check → Check
+usableCheck desk k p next = heldCheck k (p .state) (first (unless (mayUse desk (p .regions)) 17 Pass) next)
+
+-- behind these: of OPEN and ASK, and of each
 abbrev pub openRest : State → (loaded : Bool) → Check
 openRest s loaded = first (openCheck s) (unless loaded 10 Pass)
 
@@ -57,14 +61,14 @@ placeOn Ask p = withState state.Marked p
 placeOn Confirm p = withState state.Open p
 
 -- what an act comes to on the place of a code, with the figures of the sheet that is loaded, if one is
-abbrev pub SettlesOn : CodeAct → ℕ → Place → Bool → Benchmarks → Settled → Type 0
-SettlesOn a k p loaded figures r =
-    Settles (heldCheck k (p .state) (restOn a (p .state) loaded)) (nextOn a figures p) p (placeOn a p) r
+abbrev pub SettlesOn : CodeAct → ℕ → ℕ → Place → Bool → Benchmarks → Settled → Type 0
+SettlesOn a desk k p loaded figures r =
+    Settles (usableCheck desk k p (restOn a (p .state) loaded)) (nextOn a figures p) p (placeOn a p) r
 
 -- what OPEN and ASK share: the checks, and behind them the verdict, with the draft in that state where it is accepted
-abbrev pub OpensAs : State → ℕ → Place → Bool → Benchmarks → Settled → Type 0
-OpensAs s k p loaded figures r =
-    Settles (heldCheck k (p .state) (openRest (p .state) loaded)) (verdictAnswer (verdict figures (tariffIn p))) p (withState s p) r
+abbrev pub OpensAs : State → ℕ → ℕ → Place → Bool → Benchmarks → Settled → Type 0
+OpensAs s desk k p loaded figures r =
+    Settles (usableCheck desk k p (openRest (p .state) loaded)) (verdictAnswer (verdict figures (tariffIn p))) p (withState s p) r
 
 -- only OPEN and ASK judge a tariff, and ask something of the place and the figures, and of the book
 abbrev pub Judgeable : CodeAct → Place → Bool → Benchmarks → Type 0
@@ -80,7 +84,3 @@ Handed Close b = Unit {0}
 Handed Drop b = Unit {0}
 Handed Ask b = Reachable b
 Handed Confirm b = Unit {0}
-
--- PUT
-abbrev pub putChecks : ℕ → State → Record → Check
-putChecks k s x = first (codeCheck k) (first (openCheck s) (recordCheck x))

@@ -5,7 +5,7 @@ use Rattle.texts.specs.Texts.{bytesOf, digitsWithin, decimal}
 use Rattle.request.specs.declared.CodeStep.the-variants.{Put, Open}
 use Rattle.request.specs.declared.Query.the-variants.{Benchmark}
 use Rattle.request.specs.declared.Word.the-variants.{Set, Undo, On, Tells}
-use Rattle.request.specs.declared.Request.the-variants.{NotANumber, WrongCount}
+use Rattle.request.specs.declared.Request.the-variants.{NoCall, NotANumber, WrongCount}
 use Rattle.errors.specs.Errors.{problemText}
 
 set : problemText 12 (WrongCount Set) ≡ bytesOf "error line 12: set takes at least 3 numbers\n"
@@ -31,3 +31,7 @@ four = refl
 no-number : problemText 12 (NotANumber 2) ≡ bytesOf "error line 12: word 2 is not a number from 0 to 4294967295\n"
 unfolding decimal digitsWithin
 no-number = refl
+
+no-call : problemText 12 NoCall ≡ bytesOf "error line 12: desk takes a number and a call\n"
+unfolding decimal digitsWithin
+no-call = refl

@@ -8,7 +8,7 @@ use Rattle.texts.specs.Texts.{bytesOf, decimal}
 use Rattle.request.specs.declared.Arity.{Arity}
 use Rattle.request.specs.declared.Arity.the-variants.{Exactly, AtLeast}
 use Rattle.request.specs.declared.Request.{Request}
-use Rattle.request.specs.declared.Request.the-variants.{Nothing, Asks, Unknown, NotANumber, WrongCount}
+use Rattle.request.specs.declared.Request.the-variants.{Nothing, Asks, NoCall, Unknown, NotANumber, WrongCount}
 use Rattle.request.specs.Requests.{nameOf, arity}
 
 -- error line L: WHAT
@@ -32,7 +32,8 @@ arityText (AtLeast n) = countText (bytesOf " takes at least ") n
 -- what is answered, at line l, to a line that is no call
 abbrev pub problemText : ℕ → Request → List ℕ
 problemText l Nothing = []
-problemText l (Asks w n) = []
+problemText l (Asks desk w n) = []
+problemText l NoCall = errorStart l ++ bytesOf "desk takes a number and a call\n"
 problemText l Unknown = errorStart l ++ bytesOf "unknown call\n"
 problemText l (NotANumber k) = errorStart l ++ notANumberText k
 problemText l (WrongCount w) = errorStart l ++ (nameOf w ++ arityText (arity w))

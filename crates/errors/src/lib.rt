@@ -20,13 +20,21 @@ fn put_error(out: &mut [u8], at: usize, l: u64) -> usize
     texts::put_numbered(out, at, b"error line ", l, b": ")
 }
 
+// error line L: TEXT
+fn put_error_text(out: &mut [u8], at: usize, l: u64, text: &[u8]) -> usize
+    requires { ⌜ at + length (now text) + 33 ≤ length (now out) ⌝ }
+    ensures { λ r. ⌜ Puts (now (out .entry)) at (errorStart l ++ now (text .entry)) r (now (out .exit)) ⌝ }
+{
+    let next = put_error(out, at, l);
+    texts::put_text(out, next, text)
+}
+
 // error line L: longer than 16384 bytes
 pub fn put_too_long(out: &mut [u8], at: usize, l: u64) -> usize
     requires { ⌜ at + errorRoom ≤ length (now out) ⌝ }
     ensures { λ r. ⌜ Puts (now (out .entry)) at (tooLong l) r (now (out .exit)) ⌝ }
 {
-    let next = put_error(out, at, l);
-    texts::put_text(out, next, b"longer than 16384 bytes\n")
+    put_error_text(out, at, l, b"longer than 16384 bytes\n")
 }
 
 // word K is not a number from 0 to 4294967295
@@ -90,11 +98,9 @@ pub fn put_problem(out: &mut [u8], at: usize, l: u64, request: Request) -> usize
 {
     match request {
         Request::Nothing => at,
-        Request::Asks(_, _) => at,
-        Request::Unknown => {
-            let next = put_error(out, at, l);
-            texts::put_text(out, next, b"unknown call\n")
-        }
+        Request::Asks(_, _, _) => at,
+        Request::NoCall => put_error_text(out, at, l, b"desk takes a number and a call\n"),
+        Request::Unknown => put_error_text(out, at, l, b"unknown call\n"),
         Request::NotANumber(k) => {
             let next = put_error(out, at, l);
             put_not_a_number(out, next, k)

@@ -12,6 +12,7 @@ use Rattle.laws.proofs.Never.{never}
 use Rattle.benchmark.specs.declared.Benchmarks.{Benchmarks}
 use Rattle.tariff.specs.declared.Tariff.{Tariff}
 use Rattle.tariff.specs.Tariff.{tariffOf}
+use Rattle.desks.specs.Desks.{isFull}
 use Rattle.book.specs.declared.State.{State}
 use Rattle.book.specs.declared.State.the-variants.{Empty, Draft, Marked, Open}
 use Rattle.book.specs.declared.Place.{Place}
@@ -121,8 +122,8 @@ module _ (log : List Act) (b : Book) (from : Reachable b) (same : Reads b log) w
       ∙ ap (λ t. heldAs t o m) (sym (held-there k h e .0))
 
   -- an accepted call
-  changed-reads : (a : Act) → isAccepted (answer (bookReadings b) a) ≡ true → Reads (changed b a) (a ∷ log)
-  changed-reads (SET s) e = (
+  changed-reads : (desk : ℕ) (a : Act) → isAccepted (answer desk (bookReadings b) a) ≡ true → Reads (changed b a) (a ∷ log)
+  changed-reads desk (SET s) e = (
     same-readings _ _ refl
         (λ k.
         let p = placeOf (b .places) k in
@@ -133,45 +134,45 @@ module _ (log : List Act) (b : Book) (from : Reachable b) (same : Reads b log) w
         refl,
     λ q. ap bookReadings (undone b (reachable-fits b from) s) ∙ same-readings _ _ (ap (λ r. r .sheet) (same .0)) held-is refl,
   )
-  changed-reads (PUT k x) e = (
-    place-set k (placeWith Draft (tariffOf x)) (some (tariffOf x)) false false _ _ _ (put-accepted k (held (placeOf (b .places) k)) x e .0) refl
+  changed-reads desk (PUT k x) e = (
+    place-set k (placeWith Draft (tariffOf x)) (some (tariffOf x)) false false _ _ _ (put-accepted desk k (held (placeOf (b .places) k)) x e .0) refl
         (λ j. refl) (λ j. refl) (λ j. refl),
     λ q. never (cc),
   )
-  changed-reads (OPEN k) e =
+  changed-reads desk (OPEN k) e =
       let p = placeOf (b .places) k in
-      let f = open-accepted k (held p) (inForce b) e in (
+      let f = open-accepted desk k (held p) (inForce b) e in (
         place-set k (withState Open p) (tariffAt l k) true false _ _ _ (f .code) (reheld k (f .h) true false (f .code) (f .its))
             (rewritten (tariffAt l) k) (λ j. refl) (λ j. refl),
         λ q. never (cc),
       )
-  changed-reads (CLOSE k) e =
+  changed-reads desk (CLOSE k) e =
       let p = placeOf (b .places) k in
-      let f = close-accepted k (held p) e in
+      let f = close-accepted desk k (held p) e in
       let unmarked = held-there k (f .1) (f .2) .2 ∙ open-unmarked (p .state) (tariffIn p) (f .1) (f .2) (f .3) in (
         place-set k (withState Draft p) (tariffAt l k) false false _ _ _ (f .0) (reheld k (f .1) false false (f .0) (f .2))
             (rewritten (tariffAt l) k) (λ j. refl) (written (markedOf l) k false (sym unmarked)),
         λ q. never (cc),
       )
-  changed-reads (DROP k) e = (
-    place-set k empty none false false _ _ _ (drop-accepted k (held (placeOf (b .places) k)) e) refl (λ j. refl) (λ j. refl) (λ j. refl),
+  changed-reads desk (DROP k) e = (
+    place-set k empty none false false _ _ _ (drop-accepted desk k (held (placeOf (b .places) k)) e) refl (λ j. refl) (λ j. refl) (λ j. refl),
     λ q. never (cc),
   )
-  changed-reads UNDO e = (
-    same .1 (sym (ap (λ r. r .mayUndo) (same .0)) ∙ need-accepted (b .kept .any) 15 accepted e .0),
+  changed-reads desk UNDO e = (
+    same .1 (sym (ap (λ r. r .mayUndo) (same .0)) ∙ need-accepted (b .kept .any) 15 accepted (need-accepted (isFull desk) 17 _ e .1) .0),
     λ q. never (cc),
   )
-  changed-reads (ASK k) e =
+  changed-reads desk (ASK k) e =
       let p = placeOf (b .places) k in
-      let f = open-accepted k (held p) (inForce b) e in
+      let f = open-accepted desk k (held p) (inForce b) e in
       let shut = held-there k (f .h) (f .its) .1 ∙ f .shut in (
         place-set k (withState Marked p) (tariffAt l k) false true _ _ _ (f .code) (reheld k (f .h) false true (f .code) (f .its))
             (rewritten (tariffAt l) k) (written (openOf l) k false (sym shut)) (λ j. refl),
         λ q. never (cc),
       )
-  changed-reads (CONFIRM k) e =
+  changed-reads desk (CONFIRM k) e =
       let p = placeOf (b .places) k in
-      let f = confirm-accepted k (held p) e in (
+      let f = confirm-accepted desk k (held p) e in (
         place-set k (withState Open p) (tariffAt l k) true false _ _ _ (f .0) (reheld k (f .1) true false (f .0) (f .2))
             (rewritten (tariffAt l) k) (λ j. refl) (λ j. refl),
         λ q. never (cc),
@@ -181,11 +182,11 @@ module _ (log : List Act) (b : Book) (from : Reachable b) (same : Reads b log) w
   pub step-reads : (c : Call) → Reads (step b c .book) (noted log c)
   unfolding step
   step-reads c =
-      subst (λ r. Reads (step b c .book) (cond (isAccepted (answer r (c .act))) (c .act ∷ log) log)) (same .0)
-      (go (isAccepted (answer (bookReadings b) (c .act))) refl)
+      subst (λ r. Reads (step b c .book) (cond (isAccepted (answer (c .desk) r (c .act))) (c .act ∷ log) log)) (same .0)
+      (go (isAccepted (answer (c .desk) (bookReadings b) (c .act))) refl)
     where
-      go : (t : Bool) → isAccepted (answer (bookReadings b) (c .act)) ≡ t → Reads (cond t (changed b (c .act)) b) (cond t (c .act ∷ log) log)
-      go true e = changed-reads (c .act) e
+      go : (t : Bool) → isAccepted (answer (c .desk) (bookReadings b) (c .act)) ≡ t → Reads (cond t (changed b (c .act)) b) (cond t (c .act ∷ log) log)
+      go true e = changed-reads (c .desk) (c .act) e
       go false e = same
 
 -- a list of calls
@@ -195,7 +196,7 @@ unfolding step answersOf answersAfter logAfter bookAfter
 all-steps [] log b from same = (refl, same)
 all-steps (c ∷ cs) log b from same =
     let r = all-steps cs (noted log c) (step b c .book) (step-reachable from c) (step-reads log b from same c) in
-    (ap₂ _∷_ (ap (λ r. answer r (c .act)) (same .0)) (r .0), r .1)
+    (ap₂ _∷_ (ap (λ r. answer (c .desk) r (c .act)) (same .0)) (r .0), r .1)
 
 pub at-start : Reads fresh []
 at-start = (same-readings _ _ refl (λ k. fresh-place held refl k) refl, λ q. never (cc))

@@ -4,6 +4,7 @@
 use mathlib.Core.Path.{_≡_, refl, _∙_, ap}
 use mathlib.Core.Bool.{true, cond}
 use mathlib.Core.List.{List, [], _∷_, _++_}
+use Rattle.desks.specs.Desks.{allFourteen}
 use Rattle.book.specs.Calls.{Sheet, Act, SET, UNDO, Call, call, isAccepted}
 use Rattle.book.specs.Checks.{setAnswer}
 use Rattle.history.specs.History.{effective, noted, logAfter, acceptedOf}
@@ -13,7 +14,7 @@ unfolding logAfter
 log-append log [] ds = refl
 log-append log (c ∷ cs) ds = log-append (noted log c) cs ds
 
-pub taken-back : (calls : List Call) (s : Sheet) → isAccepted (setAnswer s) ≡ true
+pub taken-back : (calls : List Call) (s : Sheet) → isAccepted (setAnswer allFourteen s) ≡ true
     → acceptedOf (calls ++ (call (SET s) ∷ call UNDO ∷ [])) ≡ acceptedOf calls
 unfolding logAfter
 taken-back calls s e =

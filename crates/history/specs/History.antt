@@ -1,5 +1,5 @@
 -- Demand 3's words, "read from the calls alone, never from the book".
--- A log is the list of what the accepted calls asked, the newest first. Sheet, tariffs, open and marked codes are read from the log without
+-- A log is the list of what the accepted calls asked, of whatever desks, the newest first. Sheet, tariffs, open and marked codes are read from the log without
 -- what was taken back, in which there is no UNDO.
 -- Assumes nothing.
 use mathlib.Core.Bool.{Bool, true, false, cond, _&&_}
@@ -110,7 +110,7 @@ readings log = readingsOf (effective log) (undoable log)
 -- "a call is accepted when its checks, for what is so read from the calls before it, give no refusal": the log after one call more,
 -- and after a list of calls more
 abbrev pub noted : List Act → Call → List Act
-noted log c = cond (isAccepted (answer (readings log) (c .act))) (c .act ∷ log) log
+noted log c = cond (isAccepted (answer (c .desk) (readings log) (c .act))) (c .act ∷ log) log
 
 unfoldable pub logAfter : List Act → List Call → List Act
 logAfter log [] = log
@@ -123,4 +123,4 @@ acceptedOf calls = effective (logAfter [] calls)
 -- "the answer that its checks give for the sheet, tariffs and open codes read in this way from the calls before it", of each call
 unfoldable pub answersAfter : List Act → List Call → List Answer
 answersAfter log [] = []
-answersAfter log (c ∷ cs) = answer (readings log) (c .act) ∷ answersAfter (noted log c) cs
+answersAfter log (c ∷ cs) = answer (c .desk) (readings log) (c .act) ∷ answersAfter (noted log c) cs

@@ -1,3 +1,3 @@
-// Demand 3: one claim about any list of SET, PUT, OPEN, CLOSE, DROP, UNDO, ASK and CONFIRM calls from a fresh book.
-// Promise: specs/Claim.antt, `Demand3`, read from the calls alone by specs/History.antt; proofs/Demand3.antt, `demand3`, proves it
-// for every list of calls. No code is here: the contracts of the calls, in crates codes, setting and undo, name the very steps that the claim is about.
+// What is read from a list of calls alone: the sheet, the tariffs, the open and the marked codes, and what each call is answered.
+// Promise: specs/History.antt says it in demand 3's words; proofs/Readings.antt, `all-steps`, proves that after any list of calls of any desks
+// from a reachable book the checks read the same from the book, and that every answer is the one so read. No code is here.

@@ -131,16 +131,16 @@ module _ (line : List ℕ) (from v i : ℕ) (s : Scanned line from v i) (w : wor
       (sym long)
 
 -- a numeral has a digit
-some-numeral : (w : List ℕ) → numeral w ≡ true → 0 < length w
+pub some-numeral : (w : List ℕ) → numeral w ≡ true → 0 < length w
 some-numeral [] h = absurd (let z : _≡_ {A = ℕ} 0 1 = cc in omega arith)
 some-numeral (b ∷ bs) h = omega arith
 
 -- what the number at a place says of its word
-abbrev told : Number → List ℕ → ℕ → Type 0
+abbrev pub told : Number → List ℕ → ℕ → Type 0
 told (Value v e) w from = (numeral w ≡ true) × (v ≡ value w) × (e ≡ from + length w)
 told Not w from = numeral w ≡ false
 
-number-told : (line : List ℕ) (from : ℕ) → told (numberAt line from) (wordIn (drop from line)) from
+pub number-told : (line : List ℕ) (from : ℕ) → told (numberAt line from) (wordIn (drop from line)) from
 unfolding numberAt
 number-told line from = go (numeral (wordIn (drop from line))) refl
   where
@@ -149,7 +149,7 @@ number-told line from = go (numeral (wordIn (drop from line))) refl
     go true e = (e, refl, refl)
     go false e = e
 
-value-told : (line : List ℕ) (i v e : ℕ) → Value v e ≡ numberAt line i → told (Value v e) (wordIn (drop i line)) i
+pub value-told : (line : List ℕ) (i v e : ℕ) → Value v e ≡ numberAt line i → told (Value v e) (wordIn (drop i line)) i
 value-told line i v e a = subst⁻¹ (λ x. told x (wordIn (drop i line)) i) a (number-told line i)
 
 pub number-within : (line : List ℕ) (i v e : ℕ) → Value v e ≡ numberAt line i → i ≤ length line → e ≤ length line
@@ -182,10 +182,10 @@ module _ (line : List ℕ) (e i : ℕ) (q : i ≡ e + spaces (drop e line)) wher
   passed : drop i line ≡ drop (spaces (drop e line)) (drop e line)
   passed = rw q (sym (drop-drop (spaces (drop e line)) e line))
 
-  words-passed : words (drop e line) ≡ words (drop i line)
+  pub words-passed : words (drop e line) ≡ words (drop i line)
   words-passed = sym (ap words passed ∙ words-spaces (drop e line))
 
-  none-left : spaces (drop i line) ≡ 0
+  pub none-left : spaces (drop i line) ≡ 0
   none-left = ap spaces passed ∙ spaces-none (drop e line)
 
 pub read-starts : (line : List ℕ) (from : ℕ) (out : List ℕ) (i : ℕ) → i ≡ from + spaces (drop from line) → i ≤ length line → Read line from out 0 i

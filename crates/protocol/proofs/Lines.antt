@@ -9,38 +9,32 @@ use denote.Enum.Declared.{tagOf}
 use lib.ListN.{length, take}
 use borrow.Author.Tests.{lt-ltb, le-ltb}
 use Rattle.book.specs.declared.Book.{Book}
-use Rattle.book.specs.declared.Done.{Done}
 use Rattle.book.specs.Calls as call
 use Rattle.book.specs.Book.{Reachable}
-use Rattle.book.specs.Promises.{answerOf, Does}
-use Rattle.book.proofs.Reached.{does-reachable}
-use Rattle.queries.specs.Queries.{Telling}
 use Rattle.texts.specs.Writing.{Puts}
 use Rattle.lines.specs.Words.{longestLine, withoutReturn}
-use Rattle.request.specs.declared.Query.{Query}
 use Rattle.request.specs.declared.Word.{Word}
-use Rattle.request.specs.declared.Word.the-variants.{Tells}
 use Rattle.request.specs.declared.Request.{Request}
-use Rattle.request.specs.declared.Request.the-variants.{Nothing, Asks, Unknown, NotANumber, WrongCount}
+use Rattle.request.specs.declared.Request.the-variants.{Nothing, Asks, NoCall, Unknown, NotANumber, WrongCount}
 use Rattle.request.proofs.Request.{the-type}
 use Rattle.request.specs.Requests.{requestOf, numbersOf, Ready}
 use Rattle.errors.specs.Errors.{problemText}
-use Rattle.answers.specs.Answers.{answerText, toldText}
 use Rattle.protocol.specs.declared.Said.the-variants.{Answer}
-use Rattle.protocol.specs.Lines.{toldOf, stepLine, callLine, problemLine, requestLine, longLine, lineAt}
-use Rattle.protocol.specs.Promises.{Answered, ToDo, Says}
+use Rattle.protocol.specs.Lines.{callLine, problemLine, requestLine, longLine, lineAt}
+use Rattle.protocol.specs.Promises.{ToDo, Says}
 
 -- a request that is no call
-no-call : (b : Book) (l : ℕ) (q : Request) (ns : List ℕ) → OneOf (0 ∷ 2 ∷ 3 ∷ 4 ∷ []) (tagOf the-type q)
+no-call : (b : Book) (l : ℕ) (q : Request) (ns : List ℕ) → OneOf (0 ∷ 2 ∷ 3 ∷ 4 ∷ 5 ∷ []) (tagOf the-type q)
     → requestLine b l q ns ≡ problemLine b l q
 no-call b l Nothing ns k = refl
-no-call b l (Asks w n) ns k = absurd (miss (0 ∷ 2 ∷ 3 ∷ 4 ∷ []) 1 tt k)
+no-call b l (Asks desk w n) ns k = absurd (miss (0 ∷ 2 ∷ 3 ∷ 4 ∷ 5 ∷ []) 1 tt k)
+no-call b l NoCall ns k = refl
 no-call b l Unknown ns k = refl
 no-call b l (NotANumber n) ns k = refl
 no-call b l (WrongCount w) ns k = refl
 
 module _ (b : Book) (reach : Reachable b) (l : ℕ) (line numbers : List ℕ) (at : ℕ) (before after : List ℕ) where
-  pub says-problem : (q : Request) (next : ℕ) → q ≡ requestOf line → OneOf (0 ∷ 2 ∷ 3 ∷ 4 ∷ []) (tagOf the-type q)
+  pub says-problem : (q : Request) (next : ℕ) → q ≡ requestOf line → OneOf (0 ∷ 2 ∷ 3 ∷ 4 ∷ 5 ∷ []) (tagOf the-type q)
       → Puts before at (problemText l q) next after
       → Says (Answer next) b (requestLine b l (requestOf line) (numbersOf line)) at before after numbers
   says-problem q next e k w =
@@ -48,14 +42,14 @@ module _ (b : Book) (reach : Reachable b) (l : ℕ) (line numbers : List ℕ) (a
       (sym (ap (λ x. requestLine b l x (numbersOf line)) (sym e) ∙ no-call b l q (numbersOf line) k))
       (record { book = refl; reachable = reach; text = w })
 
-  line-is : (q : Request) (w : Word) (n : ℕ) → q ≡ requestOf line → q ≡ Asks w n → Ready w n line numbers
-      → requestLine b l (requestOf line) (numbersOf line) ≡ callLine b w (take n numbers)
-  line-is q w n asked asks ready = ap (λ x. requestLine b l x (numbersOf line)) (sym asked ∙ asks) ∙ ap (callLine b w) (sym (ready .stand))
+  line-is : (q : Request) (desk : ℕ) (w : Word) (n : ℕ) → q ≡ requestOf line → q ≡ Asks desk w n → Ready w n line numbers
+      → requestLine b l (requestOf line) (numbersOf line) ≡ callLine b desk w (take n numbers)
+  line-is q desk w n asked asks ready = ap (λ x. requestLine b l x (numbersOf line)) (sym asked ∙ asks) ∙ ap (callLine b desk w) (sym (ready .stand))
 
-  pub says-to-do : (q : Request) (w v : Word) (n : ℕ) → q ≡ requestOf line → q ≡ Asks w n → w ≡ v → Ready w n line numbers → after ≡ before
-      → ToDo v n b (requestLine b l (requestOf line) (numbersOf line)) before after numbers
-  says-to-do q w v n asked asks is ready same =
-      (rw is at (line-is q w n asked asks ready), ready .within, rw is at (ready .right), same)
+  pub says-to-do : (q : Request) (desk : ℕ) (w v : Word) (n : ℕ) → q ≡ requestOf line → q ≡ Asks desk w n → w ≡ v → Ready w n line numbers → after ≡ before
+      → ToDo v n desk b (requestLine b l (requestOf line) (numbersOf line)) before after numbers
+  says-to-do q desk w v n asked asks is ready same =
+      (rw is at (line-is q desk w n asked asks ready), ready .within, rw is at (ready .right), same)
 
 -- a line that is too long, and one that is not
 module _ (b : Book) (l : ℕ) (cut : Bool) (bytes : List ℕ) where
@@ -71,18 +65,3 @@ module _ (b : Book) (l : ℕ) (cut : Bool) (bytes : List ℕ) where
       → lineAt b l cut bytes ≡ requestLine b l (requestOf (withoutReturn bytes)) (numbersOf (withoutReturn bytes))
   unfolding lineAt
   short-line e h = rw (e, le-ltb longestLine (length bytes) h) refl
-
--- a step that was done is what its line asks for
-pub step-done : (b : Book) (c : call.Call) (did : Done) (before : List ℕ) (at next : ℕ) (after : List ℕ) → Does b c did → Reachable b
-    → Puts before at (answerText (answerOf (did .reply) (did .months))) next after → Answered (stepLine b c) (did .book) before at next after
-step-done b c did before at next after does r w =
-    record {
-      book = does .leaves;
-      reachable = does-reachable r does;
-      text = rw (← does .answers) w;
-    }
-
--- a query that was told is what its line asks for
-pub told-done : (b : Book) (q : Query) (ns : List ℕ) (t : Telling) (before : List ℕ) (at next : ℕ) (after : List ℕ) → Reachable b → t ≡ toldOf b q ns
-    → Puts before at (toldText t) next after → Answered (callLine b (Tells q) ns) b before at next after
-told-done b q ns t before at next after r e w = record { book = refl; reachable = r; text = rw e at w }

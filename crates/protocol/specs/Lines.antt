@@ -7,9 +7,10 @@ use lib.Dec.{ltb}
 use lib.ListN.{length, getD, drop}
 use Rattle.calendar.specs.declared.Period.{Period}
 use Rattle.book.specs.declared.Book.{Book}
-use Rattle.book.specs.Calls.{Sheet, sheetAt, Act, SET, PUT, OPEN, CLOSE, DROP, UNDO, ASK, CONFIRM, Call, call}
+use Rattle.book.specs.Calls.{Sheet, sheetAt, Act, SET, PUT, OPEN, CLOSE, DROP, UNDO, ASK, CONFIRM, Call, by}
 use Rattle.book.specs.Book.{step}
-use Rattle.queries.specs.Queries.{Telling, benchmarkOf, maximumOf, quoteOf}
+use Rattle.queries.specs.Queries.{Telling, benchmarkOf, maximumOf}
+use Rattle.quoting.specs.Quote.{quoteOf}
 use Rattle.trial.specs.Trial.{trialOf}
 use Rattle.lines.specs.Words.{longestLine, withoutReturn}
 use Rattle.request.specs.declared.CodeStep.{CodeStep}
@@ -19,7 +20,7 @@ use Rattle.request.specs.declared.Query.the-variants.{Benchmark, Maximum, Quote
 use Rattle.request.specs.declared.Word.{Word}
 use Rattle.request.specs.declared.Word.the-variants.{Set, Undo, On, Tells}
 use Rattle.request.specs.declared.Request.{Request}
-use Rattle.request.specs.declared.Request.the-variants.{Nothing, Asks, Unknown, NotANumber, WrongCount}
+use Rattle.request.specs.declared.Request.the-variants.{Nothing, Asks, NoCall, Unknown, NotANumber, WrongCount}
 use Rattle.request.specs.Requests.{requestOf, numbersOf}
 use Rattle.errors.specs.Errors.{tooLong, problemText}
 use Rattle.answers.specs.Answers.{answerText, toldText}
@@ -40,12 +41,12 @@ onOf Drop ns = DROP (getD ns 0 0)
 onOf Ask ns = ASK (getD ns 0 0)
 onOf Confirm ns = CONFIRM (getD ns 0 0)
 
--- what the book tells to these numbers
-abbrev pub toldOf : Book → Query → List ℕ → Telling
-toldOf b Benchmark ns = benchmarkOf b (getD ns 0 0) (getD ns 1 0) (getD ns 2 0) (getD ns 3 0)
-toldOf b Maximum ns = maximumOf b (getD ns 0 0) (getD ns 1 0) (getD ns 2 0) (getD ns 3 0)
-toldOf b Quote ns = quoteOf b (getD ns 0 0) (getD ns 1 0) (getD ns 2 0) (drop 3 ns)
-toldOf b Trial ns = trialOf b (givenSheet ns)
+-- what the book tells a desk to these numbers
+abbrev pub toldOf : Book → (desk : ℕ) → Query → List ℕ → Telling
+toldOf b desk Benchmark ns = benchmarkOf b desk (getD ns 0 0) (getD ns 1 0) (getD ns 2 0) (getD ns 3 0)
+toldOf b desk Maximum ns = maximumOf b desk (getD ns 0 0) (getD ns 1 0) (getD ns 2 0) (getD ns 3 0)
+toldOf b desk Quote ns = quoteOf b desk (getD ns 0 0) (getD ns 1 0) (getD ns 2 0) (drop 3 ns)
+toldOf b desk Trial ns = trialOf b desk (givenSheet ns)
 
 -- what a line leads to: the book after it, and the text of its answer
 pub record Response : Type 0 where
@@ -58,11 +59,11 @@ stepLine b c = record { book = step b c .book; text = answerText (step b c .answ
 abbrev pub toldLine : Book → Telling → Response
 toldLine b t = record { book = b; text = toldText t }
 
-abbrev pub callLine : Book → Word → List ℕ → Response
-callLine b Set ns = stepLine b (call (SET (givenSheet ns)))
-callLine b Undo ns = stepLine b (call UNDO)
-callLine b (On s) ns = stepLine b (call (onOf s ns))
-callLine b (Tells q) ns = toldLine b (toldOf b q ns)
+abbrev pub callLine : Book → (desk : ℕ) → Word → List ℕ → Response
+callLine b desk Set ns = stepLine b (by desk (SET (givenSheet ns)))
+callLine b desk Undo ns = stepLine b (by desk UNDO)
+callLine b desk (On s) ns = stepLine b (by desk (onOf s ns))
+callLine b desk (Tells q) ns = toldLine b (toldOf b desk q ns)
 
 -- a line that is no call: "the book is untouched"
 abbrev pub problemLine : Book → ℕ → Request → Response
@@ -70,7 +71,8 @@ problemLine b l q = record { book = b; text = problemText l q }
 
 abbrev pub requestLine : Book → ℕ → Request → List ℕ → Response
 requestLine b l Nothing ns = problemLine b l Nothing
-requestLine b l (Asks w n) ns = callLine b w ns
+requestLine b l (Asks desk w n) ns = callLine b desk w ns
+requestLine b l NoCall ns = problemLine b l NoCall
 requestLine b l Unknown ns = problemLine b l Unknown
 requestLine b l (NotANumber k) ns = problemLine b l (NotANumber k)
 requestLine b l (WrongCount w) ns = problemLine b l (WrongCount w)

@@ -5,7 +5,7 @@ use mathlib.Core.List.{List}
 use Prim.Native.Nat.{ℕ, _≤_}
 use lib.ListN.{length, take}
 use Rattle.book.specs.declared.Book.{Book}
-use Rattle.book.specs.Calls.{UNDO, call}
+use Rattle.book.specs.Calls.{UNDO, by}
 use Rattle.book.specs.Book.{Reachable}
 use Rattle.texts.specs.Writing.{Puts}
 use Rattle.request.specs.declared.Word.{Word}
@@ -21,14 +21,14 @@ pub record Answered (line : Response) (b : Book) (before : List ℕ) (at next : 
   pub reachable : Reachable b
   pub text : Puts before at (line .text) next after
 
--- a line is a call that is still to be done, with the first n numbers; nothing is written yet
-abbrev pub ToDo : Word → (n : ℕ) (b : Book) (line : Response) (before after numbers : List ℕ) → Type 0
-ToDo w n b line before after numbers = (line ≡ callLine b w (take n numbers)) × (n ≤ length numbers) × RightCount (arity w) n × (after ≡ before)
+-- a line is a desk's call that is still to be done, with the first n numbers; nothing is written yet
+abbrev pub ToDo : Word → (n desk : ℕ) (b : Book) (line : Response) (before after numbers : List ℕ) → Type 0
+ToDo w n desk b line before after numbers = (line ≡ callLine b desk w (take n numbers)) × (n ≤ length numbers) × RightCount (arity w) n × (after ≡ before)
 
 -- a line is answered, with the book as it was; or it is a call
 abbrev pub Says : Said → (b : Book) (line : Response) (at : ℕ) (before after numbers : List ℕ) → Type 0
 Says (Answer next) b line at before after numbers = Answered line b before at next after
-Says (Set n) b line at before after numbers = ToDo word.Set n b line before after numbers
-Says Undo b line at before after numbers = (line ≡ stepLine b (call UNDO)) × (after ≡ before)
-Says (On s n) b line at before after numbers = ToDo (word.On s) n b line before after numbers
-Says (Tells q n) b line at before after numbers = ToDo (word.Tells q) n b line before after numbers
+Says (Set n desk) b line at before after numbers = ToDo word.Set n desk b line before after numbers
+Says (Undo desk) b line at before after numbers = (line ≡ stepLine b (by desk UNDO)) × (after ≡ before)
+Says (On s n desk) b line at before after numbers = ToDo (word.On s) n desk b line before after numbers
+Says (Tells q n desk) b line at before after numbers = ToDo (word.Tells q) n desk b line before after numbers

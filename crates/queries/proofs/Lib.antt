@@ -1,4 +1,3 @@
 pub mod InForce
 pub mod Ranges
-pub mod Listed
 pub mod Answers

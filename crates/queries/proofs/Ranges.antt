@@ -6,9 +6,7 @@ use Prim.Native.Nat.{ℕ, _<_, _≤_}
 use lib.Dec.{leb, ltb}
 use borrow.Author.Tests.{ltb-true, leb-true}
 use Rattle.laws.proofs.Every.{and-left, and-right}
-use Rattle.tariff.specs.declared.Tariff.{Tariff}
-use Rattle.verdict.specs.Cells.{offered, cell}
-use Rattle.queries.specs.Queries.{inRanges, cellAllowed}
+use Rattle.queries.specs.Queries.{inRanges}
 
 -- those of BENCHMARK and MAXIMUM
 pub record Within (r a p : ℕ) (last : Bool) : Type 0 where
@@ -30,10 +28,3 @@ within r a p last e =
 
 pub total-in-range : (r a p n : ℕ) → (inRanges r a p && leb n 120000) ≡ true → n ≤ 120000
 total-in-range r a p n e = leb-true n 120000 (within r a p (leb n 120000) e .fourth)
-
--- those of QUOTE
-pub cell-within : (x : Tariff) (r p : ℕ) → cellAllowed x r p ≡ true → (r < 14) × (p < 2)
-unfolding cellAllowed
-cell-within x r p e =
-    let both = and-left (ltb r 14 && ltb p 2) (offered x (cell r p)) e in
-    (ltb-true r 14 (and-left (ltb r 14) (ltb p 2) both), ltb-true p 2 (and-right (ltb r 14) (ltb p 2) both))

@@ -1,22 +1,18 @@
--- BENCHMARK, MAXIMUM and QUOTE of document 01: what each answers, on refused input too.
+-- BENCHMARK and MAXIMUM of document 01: what each answers, on refused input too; and the answers of all calls that tell.
 -- Assumes nothing.
 use mathlib.Core.Bool.{Bool, _&&_}
-use mathlib.Core.List.{List}
 use Prim.Native.Nat.{ℕ, _*_}
-use lib.Dec.{leb, ltb, eqb}
+use lib.Dec.{leb, ltb}
 use lib.IntN.{ℤ, pos}
-use lib.ListN.{length, getD}
-use Rattle.laws.specs.Notions.{every}
 use Rattle.refusal.specs.Checks.{need, given}
 use Rattle.benchmark.specs.Benchmark.{benchmark}
-use Rattle.tariff.specs.declared.Tariff.{Tariff}
-use Rattle.charge.specs.Charge.{monthMost}
-use Rattle.cap.specs.Cap.{maximum, charged, capped}
-use Rattle.verdict.specs.Cells.{cell, offered, cellNumbers, tariffNumbers}
+use Rattle.desks.specs.Desks.{mayQuery}
+use Rattle.cap.specs.Cap.{maximum}
+use Rattle.verdict.specs.Cells.{cell, cellNumbers}
 use Rattle.book.specs.declared.Book.{Book}
 use Rattle.book.specs.Calls.{Sheet}
-use Rattle.book.specs.Checks.{figuresOf, inside}
-use Rattle.book.specs.Book.{inForce, bookReadings}
+use Rattle.book.specs.Checks.{figuresOf}
+use Rattle.book.specs.Book.{inForce}
 use Rattle.queries.specs.declared.Told.{Told}
 use Rattle.queries.specs.declared.Told.the-variants as told
 
@@ -51,38 +47,19 @@ tellingOf (told.Falling codes) = falling codes
 abbrev pub inRanges : ℕ → ℕ → ℕ → Bool
 inRanges region arrangement method = ltb region 14 && ltb arrangement 2 && ltb method 2
 
--- BENCHMARK (region, arrangement, method, level). 13. 10: no sheet
-unfoldable pub benchmarkOf : Book → ℕ → ℕ → ℕ → ℕ → Telling
-benchmarkOf b r a p l =
-    need refused (inRanges r a p && ltb l 2) 13 (given refused (inForce b) 10 (λ s. benchmarkCharge (benchmark (s .fields) r a p l)))
+-- BENCHMARK (region, arrangement, method, level), of a desk. 13. 17: the region is not the desk's. 10: no sheet
+unfoldable pub benchmarkOf : Book → (desk : ℕ) → ℕ → ℕ → ℕ → ℕ → Telling
+benchmarkOf b desk r a p l =
+    need refused (inRanges r a p && ltb l 2) 13
+    (need refused (mayQuery desk r) 17 (given refused (inForce b) 10 (λ s. benchmarkCharge (benchmark (s .fields) r a p l))))
 
--- MAXIMUM (region, arrangement, method, total 0 to 120,000): "the same two; gives the whole number above and 12 × m". No standing
+-- MAXIMUM (region, arrangement, method, total 0 to 120,000): "the same two", and 17 as in BENCHMARK; "gives the whole number above and 12 × m". No standing
 -- charge enters the maximum
 abbrev pub maximumIn : Sheet → ℕ → ℕ → ℕ → ℕ → Fraction
 maximumIn s r a p total =
     let e = cellNumbers (figuresOf s) a 0 (cell r p) in record { number = maximum e total; denominator = 12 * e .m }
 
-unfoldable pub maximumOf : Book → ℕ → ℕ → ℕ → ℕ → Telling
-maximumOf b r a p total =
-    need refused (inRanges r a p && leb total 120000) 13 (given refused (inForce b) 10 (λ s. maximumCharge (maximumIn s r a p total)))
-
--- "13: region or method not offered, the list not t long, or a month above 10,000"
-unfoldable pub cellAllowed : Tariff → ℕ → ℕ → Bool
-cellAllowed x region method = ltb region 14 && ltb method 2 && offered x (cell region method)
-
-unfoldable pub monthsAllowed : ℕ → List ℕ → Bool
-monthsAllowed t months = eqb (length months) t && every (length months) (λ i. leb (getD months i 0) monthMost)
-
--- Gives "times the charge and times the maximum", each so scaled.
-abbrev pub quotationIn : Sheet → Tariff → ℕ → ℕ → List ℕ → Quotation
-quotationIn s x region method months =
-    let e = tariffNumbers (figuresOf s) x (cell region method) in record { charge = charged e x months; maximum = capped e months }
-
--- QUOTE (code, region, method, months). 6: code outside 1 to 32. 9: the place is empty. 10. 13. "Drafts can be quoted."
-unfoldable pub quoteOf : Book → ℕ → ℕ → ℕ → List ℕ → Telling
-quoteOf b k region method months =
-    need refused (inside k) 6
-    (given refused (bookReadings b .held k) 9
-    (λ h. given refused (inForce b) 10
-    (λ s. need refused (cellAllowed (h .tariff) region method && monthsAllowed (s .period .months) months) 13
-    (quotation (quotationIn s (h .tariff) region method months)))))
+unfoldable pub maximumOf : Book → (desk : ℕ) → ℕ → ℕ → ℕ → ℕ → Telling
+maximumOf b desk r a p total =
+    need refused (inRanges r a p && leb total 120000) 13
+    (need refused (mayQuery desk r) 17 (given refused (inForce b) 10 (λ s. maximumCharge (maximumIn s r a p total))))

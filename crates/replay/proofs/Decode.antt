@@ -1,19 +1,19 @@
 -- What the code reads at the start of a list that starts with an encoded call is that call.
 -- Assumes nothing.
-use mathlib.Core.Path.{_≡_, refl, sym, _∙_, ap, subst}
+use mathlib.Core.Path.{_≡_, refl, sym, _∙_, ap, ap₂, subst}
 use mathlib.Core.List.{List, _++_}
 use Prim.Native.Nat.{ℕ, _+_, _-_, _≤_, _<_}
 use native.Mathlib.Omega.{arith}
-use lib.ListN.{length, getD, drop, length-append}
+use lib.ListN.{length, getD, drop, length-append, length-drop}
 use lib.Seq.{drop-drop, take-at, drop-at}
 use Rattle.book.specs.declared.Book.{Book}
 use Rattle.book.specs.declared.Done.{Done}
-use Rattle.book.specs.Calls.{sheetAt, Act, SET, PUT, OPEN, CLOSE, DROP, UNDO, ASK, CONFIRM, Call, call}
+use Rattle.book.specs.Calls.{sheetAt, Act, SET, PUT, OPEN, CLOSE, DROP, UNDO, ASK, CONFIRM, Call, by}
 use Rattle.book.specs.Book.{step, Reachable}
 use Rattle.book.specs.Promises.{answerOf, Does}
 use Rattle.book.proofs.Reached.{does-reachable}
 use Rattle.replay.specs.declared.Ran.{Ran}
-use Rattle.replay.specs.Encoded.{encodeAct, numberOf}
+use Rattle.replay.specs.Encoded.{encodeAct, encodeCall, numberOf}
 use Rattle.replay.specs.Running.{endOf, actTo, RanAt}
 
 -- where SET and PUT end
@@ -51,27 +51,29 @@ decoded UNDO rest = record { fits = omega arith; asks = refl; left = refl }
 decoded (ASK k) rest = record { fits = omega arith; asks = refl; left = refl }
 decoded (CONFIRM k) rest = record { fits = omega arith; asks = refl; left = refl }
 
-module _ (b : Book) (s : List ℕ) (start : Reachable b) (r : Ran) where
-  starts : (c : Call) (rest : List ℕ) → s ≡ encodeAct (c .act) ++ rest → Starts s (c .act) rest
-  starts c rest e = subst (λ l. Starts l (c .act) rest) (sym e) (decoded (c .act) rest)
+-- a list, and what is behind its first number, the desk
+module _ (b : Book) (s t : List ℕ) (behind : t ≡ drop 1 s) (start : Reachable b) (r : Ran) where
+  starts : (c : Call) (rest : List ℕ) → s ≡ encodeCall c ++ rest → Starts t (c .act) rest
+  starts c rest e = subst (λ l. Starts l (c .act) rest) (sym (behind ∙ ap (drop 1) e)) (decoded (c .act) rest)
 
   -- the call that stands there was made
-  pub made-ran : (did : Done) → Does b (call (actTo s (endOf s))) did → endOf s ≤ length s
-      → (r .number ≡ numberOf (answerOf (did .reply) (did .months))) × (r .book ≡ did .book) × (r .end ≡ endOf s) → RanAt b s r
-  made-ran did does l g =
+  pub made-ran : (did : Done) → Does b (by (getD s 0 0) (actTo t (endOf t))) did → 0 < length s → endOf t ≤ length t
+      → (r .number ≡ numberOf (answerOf (did .reply) (did .months))) × (r .book ≡ did .book) × (r .end ≡ 1 + endOf t) → RanAt b s r
+  made-ran did does h l g =
       record {
         reachable = subst Reachable (sym (g .1)) (does-reachable start does);
-        within = omega (arith, g .2);
+        within = omega (arith, g .2, ap length behind, length-drop 1 s);
         runs = λ c rest e.
-            let w = starts c rest e in (
-              g .0 ∙ ap numberOf (does .answers) ∙ ap (λ a. numberOf (step b (call a) .answer)) (w .asks),
-              g .1 ∙ does .leaves ∙ ap (λ a. step b (call a) .book) (w .asks),
-              ap (λ n. drop n s) (g .2) ∙ w .left,
+            let w = starts c rest e in
+            let same : by (getD s 0 0) (actTo t (endOf t)) ≡ c = ap₂ by (ap (λ l. getD l 0 0) e) (w .asks) in (
+              g .0 ∙ ap numberOf (does .answers) ∙ ap (λ d. numberOf (step b d .answer)) same,
+              g .1 ∙ does .leaves ∙ ap (λ d. step b d .book) same,
+              ap (λ n. drop n s) (g .2) ∙ sym (drop-drop (endOf t) 1 s) ∙ ap (drop (endOf t)) (sym behind) ∙ w .left,
             );
       }
 
   -- no call stands there
-  pub none-ran : length s < endOf s → r .book ≡ b → r .end ≡ length s → RanAt b s r
+  pub none-ran : length t < endOf t → r .book ≡ b → r .end ≡ length s → RanAt b s r
   none-ran l g h =
       record {
         reachable = subst Reachable (sym g) start;

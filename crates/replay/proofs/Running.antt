@@ -1,17 +1,17 @@
 -- A run of an encoded list that is under way: what is left to do leads to the same book and the same answers.
 -- Assumes nothing.
 use mathlib.Core.Path.{_≡_, _∙_, ap}
-use mathlib.Core.List.{List, [], _∷_, _++_, map}
+use mathlib.Core.List.{List, [], _∷_, map}
 use Prim.Native.Nat.{ℕ, _+_, _≤_, _<_}
 use native.Mathlib.Omega.{arith}
 use native.Mathlib.Numerals.{add-one}
 use lib.ListN.{length, drop, set, length-set}
 use lib.Seq.{sets}
 use Rattle.book.specs.declared.Book.{Book}
-use Rattle.book.specs.Calls.{Act, SET, PUT, OPEN, CLOSE, DROP, UNDO, ASK, CONFIRM, Call}
+use Rattle.book.specs.Calls.{Call}
 use Rattle.book.specs.Book.{bookAfter, answersOf}
 use Rattle.replay.specs.declared.Ran.{Ran}
-use Rattle.replay.specs.Encoded.{encodeAct, encode, numberOf}
+use Rattle.replay.specs.Encoded.{encode, numberOf}
 use Rattle.replay.specs.Running.{RanAt}
 
 -- what is left to do, to end with the book B and the numbers O
@@ -21,16 +21,6 @@ pub record Left (B : Book) (O rest : List ℕ) (b : Book) (out : List ℕ) (n : 
   pub room : n + length todo ≤ length out
   pub book : bookAfter b todo ≡ B
   pub numbers : sets out n (map numberOf (answersOf b todo)) ≡ O
-
-encoded-long : (a : Act) (l : List ℕ) → 0 < length (encodeAct a ++ l)
-encoded-long (SET s) l = omega arith
-encoded-long (PUT k x) l = omega arith
-encoded-long (OPEN k) l = omega arith
-encoded-long (CLOSE k) l = omega arith
-encoded-long (DROP k) l = omega arith
-encoded-long UNDO l = omega arith
-encoded-long (ASK k) l = omega arith
-encoded-long (CONFIRM k) l = omega arith
 
 module _ (B : Book) (O rest : List ℕ) (b : Book) (out : List ℕ) (n : ℕ) where
   -- one call is run
@@ -58,7 +48,7 @@ module _ (B : Book) (O rest : List ℕ) (b : Book) (out : List ℕ) (n : ℕ) wh
       → sets out n (map numberOf (answersOf b cs)) ≡ O → (0 < length rest → n < length out → ⊥) → (b ≡ B) × (out ≡ O)
   unfolding bookAfter answersOf
   end-with [] e m p q h = (p, q)
-  end-with (c ∷ cs) e m p q h = absurd (h (omega (arith, ap length e, encoded-long (c .act) (encode cs))) (omega arith))
+  end-with (c ∷ cs) e m p q h = absurd (h (omega (arith, ap length e)) (omega arith))
 
   pub left-end : Left B O rest b out n → (0 < length rest → n < length out → ⊥) → (b ≡ B) × (out ≡ O)
   left-end l = end-with (l .todo) (l .stands) (l .room) (l .book) (l .numbers)

@@ -18,8 +18,9 @@ encodeAct UNDO = 5 ∷ []
 encodeAct (ASK k) = 6 ∷ k ∷ []
 encodeAct (CONFIRM k) = 7 ∷ k ∷ []
 
+-- the desk, and then what it asks
 abbrev pub encodeCall : Call → List ℕ
-encodeCall c = encodeAct (c .act)
+encodeCall c = c .desk ∷ encodeAct (c .act)
 
 abbrev pub encode : List Call → List ℕ
 encode [] = []

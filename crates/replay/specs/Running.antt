@@ -15,8 +15,8 @@ use Rattle.codes.specs.Codes.{actOn}
 use Rattle.replay.specs.declared.Ran.{Ran}
 use Rattle.replay.specs.Encoded.{encodeCall, numberOf}
 
--- Whatever numbers a list has, the code takes its first for that of a call: where the call ends, past the list where no call stands
--- there, and what it asks (proofs/Decode.antt, `decoded`).
+-- Whatever numbers a list has, the code takes its first for a desk and the next for that of an act. Of what is behind the desk: where the act
+-- ends, past the list where none stands there, and which it is (proofs/Decode.antt, `decoded`).
 abbrev pub endOf : List ℕ → ℕ
 endOf s =
     cond (eqb (getD s 0 0) 0) (5 + getD s 4 0)

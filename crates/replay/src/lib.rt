@@ -1,4 +1,4 @@
-// A lent list of encoded calls, run from a fresh book.
+// A lent list of encoded calls, each with its desk, run from a fresh book.
 // Promise: `run`'s own contract is demand 3, of the answers that it wrote and the book that it returns. It is the witness that the
 // contracts of SET, PUT, OPEN, CLOSE, DROP, UNDO, ASK and CONFIRM compose. A list that encodes no calls ends the run where it stops making sense.
 ghost use mathlib.Core.Path.{_≡_};
@@ -6,10 +6,10 @@ ghost use mathlib.Core.List.{List, map};
 ghost use Prim.Native.Nat.{ℕ, _≤_, _<_};
 ghost use lib.ListN.{length, getD};
 ghost use lib.Seq.{sets};
-ghost use Rattle.book.specs.Calls.{Call, call};
+ghost use Rattle.book.specs.Calls.{Call, by};
 ghost use Rattle.book.specs.Book.{fresh, bookAfter, answersOf, Reachable};
 ghost use Rattle.book.specs.Promises.{answerOf, Does};
-ghost use Rattle.history.specs.Claim.{Demand3};
+ghost use Rattle.claim.specs.Claim.{Demand3};
 ghost use Rattle.replay.specs.Encoded.{encode, numberOf};
 ghost use Rattle.replay.specs.Running.{endOf, setTo, putTo, codeActOf, actTo, RanAt};
 use book::Book;
@@ -47,12 +47,11 @@ fn number_at(calls: &[u32], at: usize) -> u32
     0
 }
 
-// Where the call at the start of a list ends, past the list where none stands there.
+// Where the act at the start of a list ends, past the list where none stands there.
 fn end_of(calls: &[u32]) -> usize
-    requires { ⌜ 0 < length (now calls) ⌝ }
     ensures { λ r. ⌜ (r ≡ endOf (now (calls .entry))) × (1 ≤ r) ⌝ }
 {
-    let op = calls[0];
+    let op = number_at(calls, 0);
     if op == 0 {
         return 5 + number_at(calls, 4) as usize;
     }
@@ -69,24 +68,24 @@ fn end_of(calls: &[u32]) -> usize
 }
 
 // SET: 0, year, month, t, the count of fields and the fields.
-fn set_to(b: Book, calls: &[u32], end: usize) -> Done
+fn set_to(b: Book, desk: u32, calls: &[u32], end: usize) -> Done
     requires { ⌜ Reachable b × (5 ≤ end) × (end ≤ length (now calls)) ⌝ }
-    ensures { λ r. ⌜ Does b (call (setTo (now (calls .entry)) end)) r ⌝ }
+    ensures { λ r. ⌜ Does b (by desk (setTo (now (calls .entry)) end)) r ⌝ }
 {
     let period = Period {
         year: calls[1],
         month: calls[2],
         months: calls[3],
     };
-    setting::set(b, &calls[5..end], period)
+    setting::set(b, desk, &calls[5..end], period)
 }
 
 // PUT: 1, code, the count of numbers and the numbers.
-fn put_to(b: Book, calls: &[u32], end: usize) -> Done
+fn put_to(b: Book, desk: u32, calls: &[u32], end: usize) -> Done
     requires { ⌜ (3 ≤ end) × (end ≤ length (now calls)) ⌝ }
-    ensures { λ r. ⌜ Does b (call (putTo (now (calls .entry)) end)) r ⌝ }
+    ensures { λ r. ⌜ Does b (by desk (putTo (now (calls .entry)) end)) r ⌝ }
 {
-    codes::put(b, calls[1], &calls[3..end])
+    putting::put(b, desk, calls[1], &calls[3..end])
 }
 
 // OPEN, CLOSE, DROP, ASK or CONFIRM: 2, 3, 4, 6 or 7, and the code.
@@ -108,44 +107,46 @@ fn code_act(op: u32) -> CodeAct
     CodeAct::Confirm
 }
 
-// The call that ends at `end` is made.
-fn made(b: Book, calls: &[u32], end: usize) -> Done
+// The act that ends at `end` is done for a desk.
+fn made(b: Book, desk: u32, calls: &[u32], end: usize) -> Done
     requires { ⌜ Reachable b × (end ≡ endOf (now calls)) × (1 ≤ end) × (end ≤ length (now calls)) ⌝ }
-    ensures { λ r. ⌜ Does b (call (actTo (now (calls .entry)) end)) r ⌝ }
+    ensures { λ r. ⌜ Does b (by desk (actTo (now (calls .entry)) end)) r ⌝ }
 {
     let op = calls[0];
     if op == 0 {
-        return set_to(b, calls, end);
+        return set_to(b, desk, calls, end);
     }
     if op == 1 {
-        return put_to(b, calls, end);
+        return put_to(b, desk, calls, end);
     }
     if op == 5 {
-        return undo::undo(b);
+        return undo::undo(b, desk);
     }
-    codes::act_on(b, number_at(calls, 1), code_act(op))
+    codes::act_on(b, desk, number_at(calls, 1), code_act(op))
 }
 
-// The call at the start of a list; where none stands there, nothing is left to run.
+// The call at the start of a list, a desk and its act; where none stands there, nothing is left to run.
 fn one(b: Book, calls: &[u32]) -> Ran
     requires { ⌜ Reachable b × (0 < length (now calls)) ⌝ }
     ensures { λ r. ⌜ RanAt b (now (calls .entry)) r ⌝ }
 {
-    let end = end_of(calls);
-    if calls.len() < end {
+    let desk = calls[0];
+    let act = &calls[1..];
+    let end = end_of(act);
+    if act.len() < end {
         return Ran {
             number: 0,
             book: b,
             end: calls.len(),
         };
     }
-    let did = made(b, calls, end);
+    let did = made(b, desk, act, end);
     let reply = did.reply;
     let book = did.book;
     Ran {
         number: number_of(reply),
         book,
-        end,
+        end: 1 + end,
     }
 }
 

@@ -7,7 +7,7 @@ use Prim.Native.Nat.{ℕ}
 use native.Mathlib.Omega.{arith}
 use lib.Dec.{eqb}
 use lib.ListN.{length, getD}
-use borrow.Author.Tests.{eqb-true}
+use borrow.Author.Tests.{eq-eqb, eqb-true}
 use Rattle.laws.proofs.Every.{and-left, and-right}
 use Rattle.request.specs.declared.CodeStep.the-variants.{Put, Open, Close, Drop, Ask, Confirm}
 use Rattle.request.specs.declared.Query.the-variants.{Benchmark, Maximum, Quote, Trial}
@@ -26,6 +26,20 @@ equal (x ∷ xs) [] e = absurd (let z : _≡_ {A = ℕ} 0 1 = cc in omega arith)
 equal (x ∷ xs) (y ∷ ys) e =
     let p : x ≡ y = eqb-true x y (and-left (eqb x y) (same xs ys) e) in
     let q : xs ≡ ys = equal xs ys (and-right (eqb x y) (same xs ys) e) in cc
+
+same-self : (xs : List ℕ) → same xs xs ≡ true
+unfolding same
+same-self [] = refl
+same-self (x ∷ xs) = rw (eq-eqb x x refl, same-self xs)
+
+-- another test of which that is known
+pub same-by : (r : Bool) (xs ys : List ℕ) → (r ≡ true → xs ≡ ys) → (xs ≡ ys → r ≡ true) → r ≡ same xs ys
+same-by true xs ys p q = rw (p refl) (sym (same-self ys))
+same-by false xs ys p q = go (same xs ys) refl
+  where
+    go : (t : Bool) → same xs ys ≡ t → false ≡ same xs ys
+    go true e = q (equal xs ys e) ∙ sym e
+    go false e = sym e
 
 -- each call is named by its own name
 named-by : (c : Word) → named calls (nameOf c) ≡ By c

@@ -1,6 +1,6 @@
 // SET: the checks of a sheet and its period, and every open tariff judged by it.
 // Promise: `set` answers and leaves what `step` says of SET, on refused input too: the sheet is replaced, and each open tariff that
-// exceeds somewhere becomes a draft, and no draft is marked. `judge` does all of that but storing it, for TRIAL too, and asks only
+// exceeds somewhere becomes a draft, and no draft is marked. Only a desk with all fourteen regions may: 17 to any other. `judge` does all of that but storing it, for TRIAL too, and asks only
 // that the places hold nothing or valid tariffs. `set` requires document 01's own sentence on the book, `Reachable`.
 ghost use mathlib.Core.Path.{_≡_};
 ghost use mathlib.Core.Bool.{true};
@@ -9,7 +9,7 @@ ghost use Prim.Native.Nat.{ℕ, _<_};
 ghost use lib.ListN.{length, getD};
 ghost use Rattle.sheet.specs.Sheet.{fieldCount};
 ghost use Rattle.benchmark.specs.Lawful.{Lawful};
-ghost use Rattle.book.specs.Calls.{SET, sheetAt, call};
+ghost use Rattle.book.specs.Calls.{SET, sheetAt, by, call};
 ghost use Rattle.book.specs.Book.{beyond, under, stoodAs, Reachable};
 ghost use Rattle.book.specs.Promises.{Does};
 ghost use Rattle.stands.specs.Stands.{HoldsValid};
@@ -134,9 +134,9 @@ fn kept_of(loaded: bool, fields: [u32; FIELD_COUNT], period: Period, places: [Pl
     }
 }
 
-// SET (sheet, period). 1 to 4, 14, 5. Else the sheet is replaced, each open tariff that exceeds somewhere becomes a
+// SET of a desk with all fourteen regions: 1 to 4, 14, 5. Else the sheet is replaced, each open tariff that exceeds somewhere becomes a
 // draft, and UNDO may take it back.
-pub fn set(b: Book, fields: &[u32], period: Period) -> Done
+fn put_in_force(b: Book, fields: &[u32], period: Period) -> Done
     requires { ⌜ Reachable b ⌝ }
     ensures { λ r. ⌜ Does b (call (SET (sheetAt (now (fields .entry)) period))) r ⌝ }
 {
@@ -159,4 +159,16 @@ pub fn set(b: Book, fields: &[u32], period: Period) -> Done
     let places = judged.places;
     next.places = places;
     book::answered(check, next)
+}
+
+// SET (sheet, period). 17, and then as above.
+pub fn set(b: Book, desk: u32, fields: &[u32], period: Period) -> Done
+    requires { ⌜ Reachable b ⌝ }
+    ensures { λ r. ⌜ Does b (by desk (SET (sheetAt (now (fields .entry)) period))) r ⌝ }
+{
+    let full = desks::full_check(desk);
+    let Check::Pass = full else {
+        return book::answered(full, b);
+    };
+    put_in_force(b, fields, period)
 }

@@ -1,5 +1,5 @@
 // The calls of the book, timed: `speed MEASUREMENT CALLS` makes that many calls from a fixed generator and prints the checksum of
-// their answers. 0: SET with 32 open tariffs. 1: OPEN of 28 cells and 4 tiers, with the CLOSE that frees it. 2: OPEN that is over
+// their answers, all of a desk with all fourteen regions. 0: SET with 32 open tariffs. 1: OPEN of 28 cells and 4 tiers, with the CLOSE that frees it. 2: OPEN that is over
 // the cap in the last cell. 3: QUOTE of 12 months. 4: BENCHMARK. 5: TRIAL with 32 open tariffs. 6: as 1, the book handed to each call
 // and back. 7: as 0, each SET taken back by UNDO. Any other number: each of the eight in turn.
 // Promise: each run is safe and ends, and every book that is handed to a call is one that some list of calls leaves.
@@ -13,6 +13,7 @@ use book::Book;
 use book::Reply;
 use calendar::Period;
 use codes::CodeAct;
+use desks::ALL_FOURTEEN;
 use libc::STDOUT_FILENO;
 use queries::Told;
 use sheet::FIELD_COUNT;
@@ -264,7 +265,7 @@ fn with_sheet() -> Book
         month: 10,
         months: 12,
     };
-    let did = setting::set(book::fresh_book(), &sheet, period);
+    let did = setting::set(book::fresh_book(), ALL_FOURTEEN, &sheet, period);
     did.book
 }
 
@@ -277,7 +278,7 @@ fn with_drafts(standing: u32) -> Book
     let mut k: u32 = 0;
     while k < 32 {
         let record = tiered(k, standing);
-        let did = codes::put(b, k + 1, &record);
+        let did = putting::put(b, ALL_FOURTEEN, k + 1, &record);
         let after = did.book;
         b = after;
         k += 1;
@@ -293,9 +294,9 @@ fn with_open() -> Book
     let mut k: u32 = 0;
     while k < 32 {
         let record = mixed(k);
-        let put = codes::put(b, k + 1, &record);
+        let put = putting::put(b, ALL_FOURTEEN, k + 1, &record);
         let draft = put.book;
-        let did = codes::act_on(draft, k + 1, CodeAct::Open);
+        let did = codes::act_on(draft, ALL_FOURTEEN, k + 1, CodeAct::Open);
         let after = did.book;
         b = after;
         k += 1;
@@ -310,9 +311,9 @@ fn fold_book(b: Book, sum: u64) -> u64
     let mut total = sum;
     let mut k: u32 = 0;
     while k < 32 {
-        let did = codes::act_on(b, k + 1, CodeAct::Close);
+        let did = codes::act_on(b, ALL_FOURTEEN, k + 1, CodeAct::Close);
         let reply = did.reply;
-        let told = queries::benchmark(b, k % 14, k % 2, k / 2 % 2, k / 4 % 2);
+        let told = queries::benchmark(b, ALL_FOURTEEN, k % 14, k % 2, k / 2 % 2, k / 4 % 2);
         total = fold_told(fold_reply(total, reply), told);
         k += 1;
     }
@@ -352,7 +353,7 @@ fn sets(n: u64) -> u64 {
     let mut i: u64 = 0;
     while i < n {
         x = redraw(&mut sheet, &base, x);
-        let did = setting::set(b, &sheet, drawn_period(x));
+        let did = setting::set(b, ALL_FOURTEEN, &sheet, drawn_period(x));
         let reply = did.reply;
         let after = did.book;
         b = after;
@@ -371,10 +372,10 @@ fn opens(n: u64) -> u64 {
     while i < n {
         x = next(x);
         let code = 1 + drawn(x, 32);
-        let at = book::index_of(code);
+        let at = checks::index_of(code);
         let draft = b.places[at];
         let figures = b.benchmarks;
-        let did = codes::settle(CodeAct::Open, code, draft, b.loaded, figures);
+        let did = codes::settle(ALL_FOURTEEN, CodeAct::Open, code, draft, b.loaded, figures);
         let reply = did.reply;
         let opened = did.place;
         b.places[at] = opened;
@@ -382,7 +383,7 @@ fn opens(n: u64) -> u64 {
             b.kept = book::nothing_kept();
         }
         let again = b.places[at];
-        let undid = codes::settle(CodeAct::Close, code, again, b.loaded, figures);
+        let undid = codes::settle(ALL_FOURTEEN, CodeAct::Close, code, again, b.loaded, figures);
         let answer = undid.reply;
         let closed = undid.place;
         b.places[at] = closed;
@@ -403,10 +404,10 @@ fn overs(n: u64) -> u64 {
     while i < n {
         x = next(x);
         let code = 1 + drawn(x, 32);
-        let at = book::index_of(code);
+        let at = checks::index_of(code);
         let draft = b.places[at];
         let figures = b.benchmarks;
-        let did = codes::settle(CodeAct::Open, code, draft, b.loaded, figures);
+        let did = codes::settle(ALL_FOURTEEN, CodeAct::Open, code, draft, b.loaded, figures);
         let reply = did.reply;
         let months = did.months;
         let place = did.place;
@@ -430,10 +431,10 @@ fn handed(n: u64) -> u64 {
     while i < n {
         x = next(x);
         let code = 1 + drawn(x, 32);
-        let did = codes::act_on(b, code, CodeAct::Open);
+        let did = codes::act_on(b, ALL_FOURTEEN, code, CodeAct::Open);
         let reply = did.reply;
         let opened = did.book;
-        let undid = codes::act_on(opened, code, CodeAct::Close);
+        let undid = codes::act_on(opened, ALL_FOURTEEN, code, CodeAct::Close);
         let answer = undid.reply;
         let after = undid.book;
         b = after;
@@ -453,10 +454,10 @@ fn undos(n: u64) -> u64 {
     let mut i: u64 = 0;
     while i < n {
         x = redraw(&mut sheet, &base, x);
-        let did = setting::set(b, &sheet, drawn_period(x));
+        let did = setting::set(b, ALL_FOURTEEN, &sheet, drawn_period(x));
         let reply = did.reply;
         let set = did.book;
-        let undid = undo::undo(set);
+        let undid = undo::undo(set, ALL_FOURTEEN);
         let answer = undid.reply;
         let after = undid.book;
         b = after;
@@ -479,11 +480,20 @@ fn quotes(n: u64) -> u64 {
         let region = drawn(x, 14);
         x = next(x);
         months[month] = drawn(x, 10_001);
-        let at = book::index_of(code);
+        let at = checks::index_of(code);
         let p = b.places[at];
         let figures = b.benchmarks;
         let method = drawn(x, 2);
-        let told = queries::quote_at(code, p, b.loaded, figures, region, method, &months);
+        let told = quoting::quote_at(
+            ALL_FOURTEEN,
+            code,
+            p,
+            b.loaded,
+            figures,
+            region,
+            method,
+            &months,
+        );
         sum = fold_told(sum, told);
         i += 1;
     }
@@ -498,7 +508,14 @@ fn benchmarks(n: u64) -> u64 {
     while i < n {
         x = next(x);
         let place = drawn(x, 112);
-        let told = queries::benchmark(b, place / 8, place / 4 % 2, place / 2 % 2, place % 2);
+        let told = queries::benchmark(
+            b,
+            ALL_FOURTEEN,
+            place / 8,
+            place / 4 % 2,
+            place / 2 % 2,
+            place % 2,
+        );
         sum = fold_told(sum, told);
         i += 1;
     }
@@ -514,7 +531,7 @@ fn trials(n: u64) -> u64 {
     let mut i: u64 = 0;
     while i < n {
         x = redraw(&mut sheet, &base, x);
-        let told = trial::trial(b, &sheet, drawn_period(x));
+        let told = trial::trial(b, ALL_FOURTEEN, &sheet, drawn_period(x));
         sum = fold_told(sum, told);
         i += 1;
     }

@@ -13,6 +13,7 @@ use Rattle.refusal.specs.Checks.{checked}
 use Rattle.benchmark.specs.declared.Benchmarks.{Benchmarks}
 use Rattle.tariff.specs.declared.Tariff.{Tariff}
 use Rattle.tariff.specs.Tariff.{tariffOf, recordCheck}
+use Rattle.desks.specs.Desks.{allFourteen}
 use Rattle.verdict.specs.Cells.{cellCount, verdict}
 use Rattle.book.specs.declared.State.{State}
 use Rattle.book.specs.declared.State.the-variants.{Empty, Draft, Marked, Open}
@@ -38,7 +39,7 @@ Reached b xs p ys = Has b (xs ++ p ∷ ys)
 
 -- a tariff that may be open: a sheet is loaded, and the checks of OPEN answer with the number of cells
 may-open : (l : Bool) (s : Sheet) (k : ℕ) (x : Tariff) → inside k ≡ true → MayOpen (sheetIf l s) x
-    → openAnswer k (held (placeWith Draft x)) (sheetIf l s) ≡ cells (cellCount x)
+    → openAnswer allFourteen k (held (placeWith Draft x)) (sheetIf l s) ≡ cells (cellCount x)
 unfolding verdict
 may-open true s k x r h = rw (r, h)
 may-open false s k x r h = absurd h
@@ -53,12 +54,12 @@ module _ (b : Book) (xs ys : List Place) (within : length xs < 32) where
   put-there y e r =
       let d = withPlaces b (xs ++ empty ∷ ys) nothingKept in
       let k = suc (length xs) in
-      let a : putAnswer k (held (getD (xs ++ empty ∷ ys) (length xs) beyond)) y ≡ accepted = rw (code, getD-append-seam xs empty ys beyond, e) refl in
+      let a : putAnswer allFourteen k (held (getD (xs ++ empty ∷ ys) (length xs) beyond)) y ≡ accepted = rw (code, getD-append-seam xs empty ys beyond, e) refl in
       let m = made d (call (PUT k y)) accepted a refl in
       subst Reachable (m ∙ ap (λ ps. withPlaces b ps nothingKept) (set-append-seam xs empty ys (placeWith Draft (tariffOf y)))) (step-reachable r (call (PUT k y)))
 
   -- a call with the checks of OPEN, which leaves the tariff in state q
-  stood-there : (q : State) (a : ℕ → Act) → ((r : Readings) (k : ℕ) → answer r (a k) ≡ openAnswer k (r .held k) (r .sheet))
+  stood-there : (q : State) (a : ℕ → Act) → ((r : Readings) (k : ℕ) → answer allFourteen r (a k) ≡ openAnswer allFourteen k (r .held k) (r .sheet))
       → ((d : Book) (k : ℕ) → changed d (a k) ≡ withPlace d k (withState q (placeOf (d .places) k)))
       → (x : Tariff) → MayOpen (inForce b) x → Reached b xs (placeWith Draft x) ys → Reached b xs (placeWith q x) ys
   unfolding Has
@@ -67,7 +68,7 @@ module _ (b : Book) (xs ys : List Place) (within : length xs < 32) where
       let d = withPlaces b (xs ++ p ∷ ys) nothingKept in
       let k = suc (length xs) in
       let it = getD-append-seam xs p ys beyond in
-      let e = ap (λ o. openAnswer k (held o) (inForce b)) it ∙ may-open (b .loaded) (sheetIn b) k x code h in
+      let e = ap (λ o. openAnswer allFourteen k (held o) (inForce b)) it ∙ may-open (b .loaded) (sheetIn b) k x code h in
       let m = made d (call (a k)) (cells (cellCount x)) (by _ k ∙ e) refl in
       let n = ap (λ o. withPlace d k (withState q o)) it ∙ ap (λ ps. withPlaces b ps nothingKept) (set-append-seam xs p ys (placeWith q x)) in
       subst Reachable (m ∙ (leaves d k ∙ n)) (step-reachable r (call (a k)))

@@ -11,6 +11,7 @@ use Rattle.laws.proofs.Never.{never}
 use Rattle.refusal.specs.declared.Check.the-variants.{Pass}
 use Rattle.benchmark.specs.Benchmark.{setCheck}
 use Rattle.tariff.specs.declared.Tariff.{Tariff}
+use Rattle.desks.specs.Desks.{isFull}
 use Rattle.verdict.specs.Cells.{firstOver}
 use Rattle.book.specs.declared.State.{State}
 use Rattle.book.specs.declared.State.the-variants.{Empty, Draft, Marked, Open}
@@ -84,42 +85,42 @@ fits-set b h s e =
 bare : (b : Book) → b .kept ≡ nothingKept → Fits b → Stands b
 bare b e h = record { fits = h; nothing-kept = λ l. e; step-kept = λ l. never (let z : false ≡ true = sym (ap (λ k. k .any) e) ∙ l in cc) }
 
-pub passes-open : (b : Book) → Fits b → (k : ℕ) → isAccepted (openAnswer k (held (placeOf (b .places) k)) (inForce b)) ≡ true
+pub passes-open : (desk : ℕ) (b : Book) → Fits b → (k : ℕ) → isAccepted (openAnswer desk k (held (placeOf (b .places) k)) (inForce b)) ≡ true
     → let x = tariffIn (placeOf (b .places) k) in (inside k ≡ true) × Recorded x × MayOpen (inForce b) x
-passes-open b h k e =
+passes-open desk b h k e =
     let p = placeOf (b .places) k in
-    let f = open-accepted k (held p) (inForce b) e in
+    let f = open-accepted desk k (held p) (inForce b) e in
     let r = held-fits (inForce b) (p .state) p (h .places k (f .code)) (f .h) (f .its) in
     (f .code, r .0, may-open (inForce b) (f .s) (tariffIn p) (f .h .tariff) (f .in-force) (r .1) (f .none-over))
 
 -- an accepted call
-stands-changed : (b : Book) → Stands b → (a : Act) → isAccepted (answer (bookReadings b) a) ≡ true → Stands (changed b a)
-stands-changed b h (SET s) e =
+stands-changed : (b : Book) → Stands b → (desk : ℕ) (a : Act) → isAccepted (answer desk (bookReadings b) a) ≡ true → Stands (changed b a)
+stands-changed b h desk (SET s) e =
     record {
-      fits = fits-set b (h .fits) s (checked-accepted (setCheck (s .fields) (s .period)) accepted e .0);
+      fits = fits-set b (h .fits) s (checked-accepted (setCheck (s .fields) (s .period)) accepted (need-accepted (isFull desk) 17 _ e .1) .0);
       nothing-kept = λ l. never (cc);
       step-kept = λ l.
           let back = undone b (h .fits) s in
           (subst Fits (sym back) (fits-unkept b (h .fits)), ap (λ d. changed d (SET s)) (sym back));
     }
-stands-changed b h (PUT k x) e =
-    let f = put-accepted k (held (placeOf (b .places) k)) x e in
+stands-changed b h desk (PUT k x) e =
+    let f = put-accepted desk k (held (placeOf (b .places) k)) x e in
     bare _ refl (fits-place b k _ (h .fits) (f .0) (x, f .1, refl))
-stands-changed b h (OPEN k) e =
-    let w = passes-open b (h .fits) k e in
+stands-changed b h desk (OPEN k) e =
+    let w = passes-open desk b (h .fits) k e in
     bare _ refl (fits-place b k (withState Open (placeOf (b .places) k)) (h .fits) (w .0) (w .1, w .2))
-stands-changed b h (CLOSE k) e =
+stands-changed b h desk (CLOSE k) e =
     let p = placeOf (b .places) k in
-    let f = close-accepted k (held p) e in
+    let f = close-accepted desk k (held p) e in
     bare _ refl (fits-place b k (withState Draft p) (h .fits) (f .0) (held-fits (inForce b) (p .state) p (h .fits .places k (f .0)) (f .1) (f .2) .0))
-stands-changed b h (DROP k) e = bare _ refl (fits-place b k empty (h .fits) (drop-accepted k (held (placeOf (b .places) k)) e) refl)
-stands-changed b h UNDO e = bare _ refl (h .step-kept (need-accepted (b .kept .any) 15 accepted e .0) .0)
-stands-changed b h (ASK k) e =
-    let w = passes-open b (h .fits) k e in
+stands-changed b h desk (DROP k) e = bare _ refl (fits-place b k empty (h .fits) (drop-accepted desk k (held (placeOf (b .places) k)) e) refl)
+stands-changed b h desk UNDO e = bare _ refl (h .step-kept (need-accepted (b .kept .any) 15 accepted (need-accepted (isFull desk) 17 _ e .1) .0) .0)
+stands-changed b h desk (ASK k) e =
+    let w = passes-open desk b (h .fits) k e in
     bare _ refl (fits-place b k (withState Marked (placeOf (b .places) k)) (h .fits) (w .0) (w .1, w .2))
-stands-changed b h (CONFIRM k) e =
+stands-changed b h desk (CONFIRM k) e =
     let p = placeOf (b .places) k in
-    let f = confirm-accepted k (held p) e in
+    let f = confirm-accepted desk k (held p) e in
     let r = held-fits (inForce b) (p .state) p (h .fits .places k (f .0)) (f .1) (f .2) in
     bare _ refl (fits-place b k (withState Open p) (h .fits) (f .0) (r .0, r .2 (ap (λ m. f .1 .isOpen || m) (f .3) ∙ or-true (f .1 .isOpen))))
 

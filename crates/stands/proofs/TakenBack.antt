@@ -4,6 +4,7 @@ use mathlib.Core.Path.{_≡_, refl, _∙_, ap, ap₂, subst}
 use mathlib.Core.Bool.{true}
 use mathlib.Core.List.{[], _∷_}
 use Rattle.refusal.specs.Checks.{need}
+use Rattle.desks.specs.Desks.{allFourteen}
 use Rattle.book.specs.declared.Book.{Book}
 use Rattle.book.specs.Calls.{Sheet, SET, UNDO, call, accepted, refused}
 use Rattle.book.specs.Checks.{setAnswer}
@@ -13,7 +14,7 @@ use Rattle.book.proofs.Steps.{made, answered-by}
 use Rattle.stands.proofs.Undone.{unkept, undone}
 use Rattle.stands.proofs.Kept.{reachable-fits}
 
-module _ (b : Book) (from : Reachable b) (s : Sheet) (accepts : setAnswer s ≡ accepted) where
+module _ (b : Book) (from : Reachable b) (s : Sheet) (accepts : setAnswer allFourteen s ≡ accepted) where
   set-there : step b (call (SET s)) .book ≡ changed b (SET s)
   set-there = made b (call (SET s)) accepted accepts refl
 
@@ -25,7 +26,7 @@ module _ (b : Book) (from : Reachable b) (s : Sheet) (accepts : setAnswer s ≡ 
   )
 
 -- so that book is reachable as well
-pub unkept-reachable : (b : Book) → Reachable b → (s : Sheet) → setAnswer s ≡ accepted → Reachable (unkept b)
+pub unkept-reachable : (b : Book) → Reachable b → (s : Sheet) → setAnswer allFourteen s ≡ accepted → Reachable (unkept b)
 unfolding bookAfter
 unkept-reachable b r s e = subst Reachable (set-then-undo b r s e .0) (step-reachable (step-reachable r (call (SET s))) (call UNDO))
 

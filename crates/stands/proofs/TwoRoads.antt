@@ -1,17 +1,18 @@
--- OPEN equals ASK and, where that is accepted, CONFIRM, on every reachable book.
+-- OPEN equals ASK and, where that is accepted, CONFIRM, on every reachable book and for every desk.
 -- Assumes nothing.
-use mathlib.Core.Path.{_≡_, refl, sym, _∙_, ap}
+use mathlib.Core.Path.{_≡_, refl, sym, _∙_, ap, ap₂}
 use mathlib.Core.Bool.{Bool, true, false, cond}
 use mathlib.Core.List.{List}
 use Prim.Native.Nat.{ℕ, zero, suc}
 use lib.Seq.{set-set}
 use borrow.Author.Tests.{eq-eqb}
 use Rattle.refusal.specs.Checks.{need}
+use Rattle.desks.specs.Desks.{mayUse}
 use Rattle.verdict.specs.Cells.{cellCount}
 use Rattle.book.specs.declared.State.the-variants.{Marked, Open}
 use Rattle.book.specs.declared.Place.{Place}
 use Rattle.book.specs.declared.Book.{Book}
-use Rattle.book.specs.Calls.{OPEN, ASK, CONFIRM, call, Answer, cells, refused, isAccepted}
+use Rattle.book.specs.Calls.{OPEN, ASK, CONFIRM, by, Answer, cells, refused, isAccepted}
 use Rattle.book.specs.Checks.{confirmAnswer, answer}
 use Rattle.book.specs.Book.{nothingKept, tariffIn, withState, placeOf, setPlace, held, inForce, bookReadings, withPlaces, changed, Effect, step, Reachable}
 use Rattle.book.proofs.Places.{code-range, at-set}
@@ -26,7 +27,7 @@ place-twice : (ps : List Place) (k : ℕ) (p q : Place) → setPlace (setPlace p
 place-twice ps zero p q = refl
 place-twice ps (suc i) p q = set-set ps i p q
 
-module _ (b : Book) (from : Reachable b) (k : ℕ) where
+module _ (desk : ℕ) (b : Book) (from : Reachable b) (k : ℕ) where
   abbrev p : Place
   p = placeOf (b .places) k
 
@@ -34,9 +35,9 @@ module _ (b : Book) (from : Reachable b) (k : ℕ) where
   marked = changed b (ASK k)
 
   -- where OPEN is accepted, the asked draft stands marked, and CONFIRM answers as OPEN does and leaves what OPEN leaves
-  module _ (e : isAccepted (answer (bookReadings b) (OPEN k)) ≡ true) where
-    known : Opens k (held p) (inForce b)
-    known = open-accepted k (held p) (inForce b) e
+  module _ (e : isAccepted (answer desk (bookReadings b) (OPEN k)) ≡ true) where
+    known : Opens desk k (held p) (inForce b)
+    known = open-accepted desk k (held p) (inForce b) e
 
     fits : Fits b
     fits = reachable-fits b from
@@ -44,11 +45,11 @@ module _ (b : Book) (from : Reachable b) (k : ℕ) where
     there : placeOf (marked .places) k ≡ withState Marked p
     there = at-set (λ d. d) (b .places) (withState Marked p) (fits .size) k k (code-range k (known .code)) ∙ ap (λ t. cond t (withState Marked p) p) (eq-eqb k k refl)
 
-    confirmed : answer (bookReadings marked) (CONFIRM k) ≡ answer (bookReadings b) (OPEN k)
+    confirmed : answer desk (bookReadings marked) (CONFIRM k) ≡ answer desk (bookReadings b) (OPEN k)
     confirmed =
         let same = held-fits (inForce b) (p .state) p (fits .places k (known .code)) (known .h) (known .its) .1 in
-        ap (λ q. confirmAnswer k (held q)) there
-        ∙ ap (λ t. need refused t 6 (cells (cellCount (tariffIn p)))) (known .code)
+        ap (λ q. confirmAnswer desk k (held q)) there
+        ∙ ap₂ (λ t u. need refused t 6 (need refused u 17 (cells (cellCount (tariffIn p))))) (known .code) (ap (λ x. mayUse desk (x .regions)) same ∙ known .may)
         ∙ ap (λ x. cells (cellCount x)) same
         ∙ sym (known .answers)
 
@@ -57,29 +58,29 @@ module _ (b : Book) (from : Reachable b) (k : ℕ) where
         ap (λ q. withPlaces b (setPlace (marked .places) k (withState Open q)) nothingKept) there
         ∙ ap (λ ps. withPlaces b ps nothingKept) (place-twice (b .places) k (withState Marked p) (withState Open p))
 
-  confirm-opens : askedThenConfirmed b k ≡ step b (call (OPEN k))
+  confirm-opens : askedThenConfirmed desk b k ≡ step b (by desk (OPEN k))
   unfolding step
   confirm-opens = go (isAccepted a) refl
     where
       a : Answer
-      a = answer (bookReadings b) (OPEN k)
+      a = answer desk (bookReadings b) (OPEN k)
 
       -- what ASK comes to, and then CONFIRM, by whether the checks accept
       asked : Bool → Effect
       asked t = record { answer = a; book = cond t marked b }
 
       then-confirmed : Bool → Effect
-      then-confirmed t = cond t (step (asked t .book) (call (CONFIRM k))) (asked t)
+      then-confirmed t = cond t (step (asked t .book) (by desk (CONFIRM k))) (asked t)
 
-      go : (t : Bool) → isAccepted a ≡ t → askedThenConfirmed b k ≡ step b (call (OPEN k))
+      go : (t : Bool) → isAccepted a ≡ t → askedThenConfirmed desk b k ≡ step b (by desk (OPEN k))
       go true e =
-          let books = made marked (call (CONFIRM k)) a (confirmed e) e ∙ left e ∙ sym (made b (call (OPEN k)) a refl e) in
-          let both : then-confirmed true ≡ step b (call (OPEN k)) = λ i. record { answer = confirmed e i; book = books i } in
+          let books = made marked (by desk (CONFIRM k)) a (confirmed e) e ∙ left e ∙ sym (made b (by desk (OPEN k)) a refl e) in
+          let both : then-confirmed true ≡ step b (by desk (OPEN k)) = λ i. record { answer = confirmed e i; book = books i } in
           ap then-confirmed e ∙ both
       go false e =
-          let none : then-confirmed false ≡ step b (call (OPEN k)) = λ i. record { answer = a; book = cond (sym e i) (changed b (OPEN k)) b } in
+          let none : then-confirmed false ≡ step b (by desk (OPEN k)) = λ i. record { answer = a; book = cond (sym e i) (changed b (OPEN k)) b } in
           ap then-confirmed e ∙ none
 
-pub two-roads : (b : Book) → Reachable b → (k : ℕ) → TwoRoads b k
+pub two-roads : (desk : ℕ) (b : Book) → Reachable b → (k : ℕ) → TwoRoads desk b k
 unfolding step
-two-roads b from k = record { asked = refl; same = confirm-opens b from k }
+two-roads desk b from k = record { asked = refl; same = confirm-opens desk b from k }

@@ -61,23 +61,32 @@ pub fn take_lines(
             Said::Answer(next) => {
                 at = next;
             }
-            Said::Set(n) => {
-                let after = protocol::do_set(book, &numbers[..n], out, at);
+            Said::Set(n, desk) => {
+                let after = doing::do_set(book, desk, &numbers[..n], out, at);
                 at = after.at;
                 let next = after.book;
                 book = next;
             }
-            Said::Undo => {
-                let after = protocol::do_undo(book, out, at);
+            Said::Undo(desk) => {
+                let after = doing::do_undo(book, desk, out, at);
                 at = after.at;
                 let next = after.book;
                 book = next;
             }
-            Said::On(step, n) => {
-                let index = book::index_of(numbers[0]);
+            Said::On(step, n, desk) => {
+                let index = checks::index_of(numbers[0]);
                 let p = book.places[index];
                 let figures = book.benchmarks;
-                let after = protocol::do_on(step, &numbers[..n], p, book.loaded, figures, out, at);
+                let after = doing::do_on(
+                    desk,
+                    step,
+                    &numbers[..n],
+                    p,
+                    book.loaded,
+                    figures,
+                    out,
+                    at,
+                );
                 at = after.at;
                 let place = after.place;
                 book.places[index] = place;
@@ -86,8 +95,8 @@ pub fn take_lines(
                     book.kept = book::nothing_kept();
                 }
             }
-            Said::Tells(query, n) => {
-                at = protocol::do_tell(book, query, &numbers[..n], out, at);
+            Said::Tells(query, n, desk) => {
+                at = doing::do_tell(book, desk, query, &numbers[..n], out, at);
             }
         }
         cut = false;

@@ -10,6 +10,7 @@ use Rattle.laws.proofs.Never.{never}
 use Rattle.laws.proofs.Sets.{set-none}
 use Rattle.refusal.specs.declared.Check.the-variants.{Pass}
 use Rattle.benchmark.specs.Benchmark.{setCheck}
+use Rattle.desks.specs.Desks.{allFourteen}
 use Rattle.book.specs.declared.State.{State}
 use Rattle.book.specs.declared.State.the-variants.{Empty, Draft, Marked, Open}
 use Rattle.book.specs.declared.Place.{Place}
@@ -38,7 +39,7 @@ loaded-by : (l : Bool) (d s : Sheet) → sheetIf l d ≡ some s → (l ≡ true)
 loaded-by true d s e = (refl, cc)
 loaded-by false d s e = never (cc)
 
-pub trial-of-sheet-in-force : (b : Book) (s : Sheet) → Reachable b → inForce b ≡ some s → trialOf b s ≡ falling 0
+pub trial-of-sheet-in-force : (b : Book) (s : Sheet) → Reachable b → inForce b ≡ some s → trialOf b allFourteen s ≡ falling 0
 trial-of-sheet-in-force b s from e =
     trial-told b s passes after refl ∙ ap falling (set-none 32 (λ i. fellFrom (b .places) after (suc i)) kept)
   where

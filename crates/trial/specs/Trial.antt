@@ -5,7 +5,7 @@ use mathlib.Core.Option.{Option, none, some}
 use Prim.Native.Nat.{ℕ, suc}
 use Rattle.laws.specs.Notions.{setOf}
 use Rattle.book.specs.declared.Book.{Book}
-use Rattle.book.specs.Calls.{Sheet, SET, call, refusalNumber}
+use Rattle.book.specs.Calls.{Sheet, SET, by, refusalNumber}
 use Rattle.book.specs.Checks.{Holding, isOpen}
 use Rattle.book.specs.Book.{bookReadings, step}
 use Rattle.queries.specs.Queries.{Telling, refused, falling}
@@ -28,8 +28,8 @@ abbrev pub toldUnless : Option ℕ → Telling → Telling
 toldUnless none told = told
 toldUnless (some n) told = refused n
 
--- TRIAL (sheet, period): "a set of codes, bit code - 1 for each tariff that would become a draft. On a copy of the book SET must give
--- the same outcome, refusals 1 to 5 included."
-unfoldable pub trialOf : Book → Sheet → Telling
-trialOf b s =
-    let set = step b (call (SET s)) in toldUnless (refusalNumber (set .answer)) (falling (codesWhere (falls b (set .book))))
+-- TRIAL (sheet, period), of a desk: "a set of codes, bit code - 1 for each tariff that would become a draft. On a copy of the book SET must give
+-- the same outcome, refusals 1 to 5 included", and M-107's 17, first in both
+unfoldable pub trialOf : Book → (desk : ℕ) → Sheet → Telling
+trialOf b desk s =
+    let set = step b (by desk (SET s)) in toldUnless (refusalNumber (set .answer)) (falling (codesWhere (falls b (set .book))))

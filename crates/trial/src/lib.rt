@@ -1,9 +1,10 @@
 // TRIAL: which open tariffs a sheet would send back to draft, told and not done.
 // Promise: `trial` answers what specs/Trial.antt says by SET itself, on refused input too: the refusal that SET would give, or the set of
 // the codes that are open in the book and drafts in the one that SET would leave. The checks and the judging are SET's own,
-// `setting::judge`. It requires document 01's own sentence on the book, `Reachable`.
+// `setting::judge`. Only a desk with all fourteen regions may try one: 17 to any other. It requires document 01's own sentence on the book, `Reachable`.
 ghost use mathlib.Core.Path.{_≡_};
 ghost use mathlib.Core.Bool.{cond};
+ghost use Rattle.desks.specs.Desks.{allFourteen};
 ghost use Rattle.book.specs.Calls.{sheetAt};
 ghost use Rattle.book.specs.Book.{Reachable};
 ghost use Rattle.queries.specs.Queries.{tellingOf};
@@ -52,10 +53,10 @@ fn fallen(before: [Place; 32], after: [Place; 32]) -> u32
     codes as u32
 }
 
-// TRIAL (sheet, period). 1 to 4, 14, 5. Else the codes that SET would make drafts.
-pub fn trial(b: Book, fields: &[u32], period: Period) -> Told
+// TRIAL of a desk with all fourteen regions. 1 to 4, 14, 5. Else the codes that SET would make drafts.
+fn try_out(b: Book, fields: &[u32], period: Period) -> Told
     requires { ⌜ Reachable b ⌝ }
-    ensures { λ r. ⌜ tellingOf r ≡ trialOf b (sheetAt (now (fields .entry)) period) ⌝ }
+    ensures { λ r. ⌜ tellingOf r ≡ trialOf b allFourteen (sheetAt (now (fields .entry)) period) ⌝ }
 {
     let before = b.places;
     let judged = setting::judge(before, fields, period);
@@ -65,4 +66,16 @@ pub fn trial(b: Book, fields: &[u32], period: Period) -> Told
     };
     let after = judged.places;
     Told::Falling(fallen(before, after))
+}
+
+// TRIAL (sheet, period). 17, and then as above.
+pub fn trial(b: Book, desk: u32, fields: &[u32], period: Period) -> Told
+    requires { ⌜ Reachable b ⌝ }
+    ensures { λ r. ⌜ tellingOf r ≡ trialOf b desk (sheetAt (now (fields .entry)) period) ⌝ }
+{
+    let full = desks::full_check(desk);
+    let Check::Pass = full else {
+        return queries::refused(full);
+    };
+    try_out(b, fields, period)
 }

@@ -1,12 +1,12 @@
 // UNDO: the last accepted SET is taken back.
 // Promise: `undo` answers and leaves what `step` of the book's definitions says of UNDO, on refused input too: 15, or the book as it was before
-// that SET, with nothing more to take back (stands/proofs/Undone.antt, `undone`). It requires document 01's own sentence on the book,
+// that SET, with nothing more to take back (stands/proofs/Undone.antt, `undone`). Only a desk with all fourteen regions may: 17 to any other. It requires document 01's own sentence on the book,
 // `Reachable`.
 ghost use mathlib.Core.Path.{_≡_};
 ghost use mathlib.Core.List.{zipWith};
 ghost use Rattle.refusal.specs.declared.Check.the-variants.{Pass};
 ghost use Rattle.refusal.specs.Checks.{unless};
-ghost use Rattle.book.specs.Calls.{UNDO, call};
+ghost use Rattle.book.specs.Calls.{UNDO, by, call};
 ghost use Rattle.book.specs.Book.{withState, Reachable};
 ghost use Rattle.book.specs.Promises.{Does};
 use book::Book;
@@ -38,9 +38,9 @@ fn in_states(places: [Place; 32], states: [Stood; 32]) -> [Place; 32]
     next
 }
 
-// UNDO. 15. Else the sheet is the one before, or none, and each place is in the state that it had. The figures are worked out again; a
+// UNDO of a desk with all fourteen regions. 15. Else the sheet is the one before, or none, and each place is in the state that it had. The figures are worked out again; a
 // book without a sheet has zeros for one, which SET's checks refuse, and so no figures.
-pub fn undo(b: Book) -> Done
+fn take_back(b: Book) -> Done
     requires { ⌜ Reachable b ⌝ }
     ensures { λ r. ⌜ Does b (call UNDO) r ⌝ }
 {
@@ -65,4 +65,16 @@ pub fn undo(b: Book) -> Done
         kept: book::nothing_kept(),
     };
     book::answered(check, next)
+}
+
+// UNDO. 17, and then as above.
+pub fn undo(b: Book, desk: u32) -> Done
+    requires { ⌜ Reachable b ⌝ }
+    ensures { λ r. ⌜ Does b (by desk UNDO) r ⌝ }
+{
+    let full = desks::full_check(desk);
+    let Check::Pass = full else {
+        return book::answered(full, b);
+    };
+    take_back(b)
 }

@@ -2,7 +2,7 @@
 -- Assumes nothing.
 use mathlib.Core.Path.{_≡_, refl, _∙_, ap, ap₂}
 use mathlib.Core.Bool.{Bool, true, false, cond, not}
-use mathlib.Core.List.{List, [], _∷_, map}
+use mathlib.Core.List.{List, [], _∷_}
 use mathlib.Core.Option.{Option, none, some}
 use lib.Count.{ones}
 use Rattle.refusal.specs.declared.Check.{Check}
@@ -12,10 +12,11 @@ use Rattle.benchmark.specs.declared.Benchmarks.{Benchmarks}
 use Rattle.benchmark.specs.Benchmark.{setCheck, benchmark, wc, pc, oc, nc, paenc, headroom, panc, figure, figures, benchmarksOf}
 use Rattle.tariff.specs.declared.Tariff.{Tariff}
 use Rattle.tariff.specs.Tariff.{tariffOf, standingIn, recordCheck}
+use Rattle.desks.specs.Desks.{allFourteen}
 use Rattle.verdict.specs.Cells.{Cell, offered, cellNumbers, cellCount, Verdict, opens, verdict, verdictAt, firstOver}
 use Rattle.verdict.specs.Cells as verdicts
 use Rattle.book.specs.declared.Book.{Book}
-use Rattle.book.specs.Calls.{Sheet, Record, Act, SET, PUT, UNDO, call, Answer, accepted, cells, refused, isAccepted, isNone}
+use Rattle.book.specs.Calls.{Sheet, Record, Act, SET, PUT, UNDO, Call, call, Answer, accepted, cells, refused, isAccepted, isNone}
 use Rattle.book.specs.Checks.{figuresOf, complies, verdictAnswer, setAnswer, answer}
 use Rattle.history.specs.History.{readings, answersAfter}
 use Rattle.laws.specs.Notions.{every, sum, total, tabulate, tabulateFrom, bit}
@@ -27,7 +28,8 @@ use Rattle.book.specs.Book.{fresh, after, bookAfter, step, changed}
 use Rattle.book.proofs.Reached.{fresh-reachable}
 use Rattle.stands.proofs.Undone.{undone}
 use Rattle.stands.proofs.Kept.{reachable-fits}
-use Rattle.queries.specs.Queries.{quotation, quoteOf, cellAllowed, monthsAllowed}
+use Rattle.queries.specs.Queries.{quotation}
+use Rattle.quoting.specs.Quote.{quoteOf, cellAllowed, monthsAllowed}
 use Rattle.reference.specs.SheetS.{sheetS, times}
 use Rattle.reference.specs.Splits.{dayDear}
 use Rattle.reference.proofs.Table.{starred}
@@ -37,12 +39,12 @@ use Rattle.worked.proofs.October.{october-accepted, october-low, octobe
 use Rattle.worked.specs.Worked.{quarter, october, splitAt, noFields, low, close, steep, dearIn5, bookOf, Worked}
 
 -- the answers to a list, one after the other
-data Told : List Act → List Act → List Answer → Type 0 where
+pub data Told : List Act → List Call → List Answer → Type 0 where
   ended : {log : List Act} → Told log [] []
-  then : {log : List Act} {c : Act} {cs : List Act} {a : Answer} {rest : List Answer} → answer (readings log) c ≡ a
-      → Told (cond (isAccepted a) (c ∷ log) log) cs rest → Told log (c ∷ cs) (a ∷ rest)
+  then : {log : List Act} {c : Call} {cs : List Call} {a : Answer} {rest : List Answer} → answer (c .desk) (readings log) (c .act) ≡ a
+      → Told (cond (isAccepted a) (c .act ∷ log) log) cs rest → Told log (c ∷ cs) (a ∷ rest)
 
-told : {log cs : List Act} {answers : List Answer} → Told log cs answers → answersAfter log (map call cs) ≡ answers
+pub told : {log : List Act} {cs : List Call} {answers : List Answer} → Told log cs answers → answersAfter log cs ≡ answers
 unfolding answersAfter
 told ended = refl
 told (then {a = a} e t) = rw e (ap (_∷_ a) (told t))
@@ -64,7 +66,7 @@ complying f x = go (firstOver f x)
 pub passed : {c : Check} → c ≡ Pass → checked refused c accepted ≡ accepted
 passed e = ap (λ c. checked refused c accepted) e
 
-pub quarter-set : setAnswer quarter ≡ accepted
+pub quarter-set : setAnswer allFourteen quarter ≡ accepted
 quarter-set = passed (starred .accepted)
 
 pub low-put : checked refused (recordCheck low) accepted ≡ accepted
@@ -73,11 +75,11 @@ low-put = passed (starred .records .0)
 pub low-opens : verdictAnswer (verdict (figuresOf quarter) (tariffOf low)) ≡ cells 28
 low-opens = ap verdictAnswer (starred .verdicts .within)
 
-low-cells : cells (cellCount (tariffOf low)) ≡ cells 28
+pub low-cells : cells (cellCount (tariffOf low)) ≡ cells 28
 unfolding cellCount ones
 low-cells = refl
 
-no-fields-set : setAnswer noFields ≡ refused 1
+pub no-fields-set : setAnswer allFourteen noFields ≡ refused 1
 unfolding setCheck
 no-fields-set = refl
 
@@ -97,7 +99,7 @@ opened-if : (s : Sheet) (x : Record) (v : Verdict) → verdict (figuresOf s) (ta
 opened-if s x v e = ap₂ (λ t w. need refused (not t) 7 (verdictAnswer w)) (complying (figuresOf s) (tariffOf x) ∙ ap isOpening e) e
 
 -- the sheet with another split
-pub other-set : setAnswer (splitAt 579) ≡ accepted
+pub other-set : setAnswer allFourteen (splitAt 579) ≡ accepted
 other-set = passed (splits .accepted .1)
 
 pub seven-put : checked refused (recordCheck dayDear) accepted ≡ accepted
@@ -117,9 +119,9 @@ two-calls : (x : Record) → recordCheck x ≡ Pass → bookOf (SET quarter ∷ 
 unfolding bookAfter step
 two-calls x e = rw (starred .accepted, e)
 
-quotes-told : (quoteOf (afterPut steep) 7 0 1 (300 ∷ 0 ∷ 0 ∷ []) ≡ quotation (record { charge = 246240000000000; maximum = 279704700000000 }))
-    × (quoteOf (afterPut dearIn5) 7 4 1 (100 ∷ 200 ∷ 300 ∷ []) ≡ quotation (record { charge = 464976000000000; maximum = 480051900000000 }))
-    × (quoteOf (afterPut dearIn5) 7 5 1 (100 ∷ 200 ∷ 300 ∷ []) ≡ quotation (record { charge = 468155520000000; maximum = 480051900000000 }))
+quotes-told : (quoteOf (afterPut steep) allFourteen 7 0 1 (300 ∷ 0 ∷ 0 ∷ []) ≡ quotation (record { charge = 246240000000000; maximum = 279704700000000 }))
+    × (quoteOf (afterPut dearIn5) allFourteen 7 4 1 (100 ∷ 200 ∷ 300 ∷ []) ≡ quotation (record { charge = 464976000000000; maximum = 480051900000000 }))
+    × (quoteOf (afterPut dearIn5) allFourteen 7 5 1 (100 ∷ 200 ∷ 300 ∷ []) ≡ quotation (record { charge = 468155520000000; maximum = 480051900000000 }))
 unfolding quoteOf cellAllowed monthsAllowed every offered bit cellNumbers standingIn arrangement tierCharge charge maximum charged capped sum total benchmarksOf figures figure tabulate tabulateFrom benchmark wc pc oc nc paenc headroom panc valueOf signed indexed round roundSigned sheetS times periodDays monthBegins lengthAt monthLength leapYear
 quotes-told = (refl, refl, refl)
 
@@ -252,9 +254,9 @@ worked =
           told
           (then (passed high-record)
           (then refl (then refl (then quarter-set (then (ap verdictAnswer (starred .verdicts .just-over)) (then low-put (then low-opens ended)))))));
-      quoted = ap (λ b. quoteOf b 7 0 1 (300 ∷ 0 ∷ 0 ∷ [])) (two-calls steep (starred .records .1)) ∙ quotes-told .0;
-      quoted-in-4 = ap (λ b. quoteOf b 7 4 1 (100 ∷ 200 ∷ 300 ∷ [])) (two-calls dearIn5 (regional .records .2)) ∙ quotes-told .1;
-      quoted-in-5 = ap (λ b. quoteOf b 7 5 1 (100 ∷ 200 ∷ 300 ∷ [])) (two-calls dearIn5 (regional .records .2)) ∙ quotes-told .2;
+      quoted = ap (λ b. quoteOf b allFourteen 7 0 1 (300 ∷ 0 ∷ 0 ∷ [])) (two-calls steep (starred .records .1)) ∙ quotes-told .0;
+      quoted-in-4 = ap (λ b. quoteOf b allFourteen 7 4 1 (100 ∷ 200 ∷ 300 ∷ [])) (two-calls dearIn5 (regional .records .2)) ∙ quotes-told .1;
+      quoted-in-5 = ap (λ b. quoteOf b allFourteen 7 5 1 (100 ∷ 200 ∷ 300 ∷ [])) (two-calls dearIn5 (regional .records .2)) ∙ quotes-told .2;
       tiers =
           told
           (then quarter-set

@@ -13,23 +13,24 @@ use Rattle.verdict.specs.Cells.{offered, cellNumbers}
 use Rattle.book.specs.declared.Book.{Book}
 use Rattle.book.specs.Calls.{sheetAt, SET, PUT}
 use Rattle.book.specs.Book.{fresh, bookAfter, step, changed}
-use Rattle.queries.specs.Queries.{benchmarkOf, maximumOf, quoteOf, cellAllowed, monthsAllowed}
+use Rattle.queries.specs.Queries.{benchmarkOf, maximumOf}
+use Rattle.quoting.specs.Quote.{quoteOf, cellAllowed, monthsAllowed}
 use Rattle.unlike.specs.SheetU.{networks, sheetU, periodU, threeTiers, peakAt, threeRegisters}
 use Rattle.unlike.proofs.Table.{unlike}
 use Rattle.worked.specs.Queried.{threeTariffs, noSheet, Queried}
 
 -- the calls are accepted
-abbrev three : Book
+abbrev pub three : Book
 three = changed (changed (changed (changed fresh (SET (sheetAt sheetU periodU))) (PUT 1 (threeTiers 27000))) (PUT 4 (threeRegisters 15000))) (PUT 5 (peakAt 16100))
 
-abbrev bare : Book
+abbrev pub bare : Book
 bare = changed fresh (PUT 4 (threeRegisters 15000))
 
-after-four : threeTariffs ≡ three
+pub after-four : threeTariffs ≡ three
 unfolding bookAfter step
 after-four = rw (unlike .accepted, unlike .records .0, unlike .records .2, unlike .records .1)
 
-after-one : noSheet ≡ bare
+pub after-one : noSheet ≡ bare
 unfolding bookAfter step
 after-one = rw (unlike .records .2)
 

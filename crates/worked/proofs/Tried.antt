@@ -12,6 +12,7 @@ use Rattle.sheet.specs.Sheet.{signed, valueOf, rangeOf, fieldInRange, fieldsInR
 use Rattle.benchmark.specs.Benchmark.{benchmark, wc, pc, oc, nc, paenc, headroom, panc, figure, figures, ocsFit, ordered, setCheck}
 use Rattle.tariff.specs.declared.Tariff.{Tariff}
 use Rattle.tariff.specs.Tariff.{tariffOf}
+use Rattle.desks.specs.Desks.{allFourteen}
 use Rattle.verdict.specs.Cells.{Verdict, verdict}
 use Rattle.book.specs.declared.State.the-variants.{Open}
 use Rattle.book.specs.declared.Place.{Place}
@@ -37,7 +38,7 @@ use Rattle.worked.specs.Tried.{twoOpen, threeOpen, oneClosed, otherSplit
 -- a list of accepted calls, and the book that it leaves
 data Makes : Book → List Act → Book → Type 0 where
   ended : {b : Book} → Makes b [] b
-  then : {b d : Book} {a : Act} {acts : List Act} (x : Answer) → answer (bookReadings b) a ≡ x → isAccepted x ≡ true → Makes (changed b a) acts d
+  then : {b d : Book} {a : Act} {acts : List Act} (x : Answer) → answer allFourteen (bookReadings b) a ≡ x → isAccepted x ≡ true → Makes (changed b a) acts d
       → Makes b (a ∷ acts) d
 
 makes : {b d : Book} {acts : List Act} → Makes b acts d → bookAfter b (map call acts) ≡ d
@@ -85,7 +86,7 @@ placesWith p q r = set (set (set (replicate 32 empty) 0 p) 1 q) 31 r
 -- a trial on a book with such places, by what becomes of each under the sheet
 told-by : (b : Book) (s : Sheet) → setCheck (s .fields) (s .period) ≡ Pass → (p q r p' q' r' : Place) (codes : ℕ) → b .places ≡ placesWith p q r
     → under (figuresOf s) p ≡ p' → under (figuresOf s) q ≡ q' → under (figuresOf s) r ≡ r' → codesWhere (fellFrom (placesWith p q r) (placesWith p' q' r')) ≡ codes
-    → trialOf b s ≡ falling codes
+    → trialOf b allFourteen s ≡ falling codes
 told-by b s e p q r p' q' r' codes h i j k n =
     trial-told b s e (placesWith p' q' r') (sym (ap (map (under (figuresOf s))) h ∙ λ t. placesWith (i t) (j t) (k t)))
     ∙ ap (λ ps. falling (codesWhere (fellFrom ps (placesWith p' q' r')))) h

@@ -2,3 +2,5 @@ pub mod Worked
 pub mod Refusals
 pub mod Queried
 pub mod Tried
+pub mod Desks
+pub mod Apart

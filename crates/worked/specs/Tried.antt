@@ -2,6 +2,7 @@
 -- Assumes nothing.
 use mathlib.Core.Path.{_≡_}
 use mathlib.Core.List.{List, [], _∷_, _++_}
+use Rattle.desks.specs.Desks.{allFourteen}
 use Rattle.book.specs.declared.Book.{Book}
 use Rattle.book.specs.Calls.{Act, SET, PUT, OPEN, CLOSE}
 use Rattle.book.specs.Book.{fresh}
@@ -34,20 +35,20 @@ dearOpen = bookOf (SET quarter ∷ PUT 1 dearIn5 ∷ PUT 2 low ∷ OPEN 1 ∷ OP
 
 pub record Tried : Type 0 where
   -- October's sheet would send the first of the two back to draft: bit 0; and in place 32 as well: bits 0 and 31
-  pub one-falls : trialOf twoOpen october ≡ falling 1
-  pub last-place : trialOf threeOpen october ≡ falling 2147483649
+  pub one-falls : trialOf twoOpen allFourteen october ≡ falling 1
+  pub last-place : trialOf threeOpen allFourteen october ≡ falling 2147483649
   -- a split of 580 would send the Economy 7 tariff back
-  pub split-falls : trialOf otherSplit quarter ≡ falling 1
+  pub split-falls : trialOf otherSplit allFourteen quarter ≡ falling 1
   -- October's sheet would send back the tariff that adds 960 in region 5, and not the same one without it
-  pub region-falls : trialOf dearOpen october ≡ falling 1
+  pub region-falls : trialOf dearOpen allFourteen october ≡ falling 1
   -- a draft does not fall; nothing falls under the sheet in force; and a trial needs no sheet in force
-  pub draft-stays : trialOf oneClosed october ≡ falling 0
-  pub same-sheet : trialOf twoOpen quarter ≡ falling 0
-  pub no-sheet : trialOf fresh october ≡ falling 0
+  pub draft-stays : trialOf oneClosed allFourteen october ≡ falling 0
+  pub same-sheet : trialOf twoOpen allFourteen quarter ≡ falling 0
+  pub no-sheet : trialOf fresh allFourteen october ≡ falling 0
   -- 1 to 5 and 14, as SET; 2 comes before 3, 4 before 14, and 14 before 5
-  pub refused-1 : trialOf twoOpen noFields ≡ refused 1
-  pub refused-2 : (trialOf twoOpen (withField 94 0) ≡ refused 2) × (trialOf twoOpen bothWrong ≡ refused 2) × (trialOf twoOpen (splitAt 1001) ≡ refused 2)
-  pub refused-3 : trialOf twoOpen (forPeriod 2023 13 1) ≡ refused 3
-  pub refused-4 : (trialOf twoOpen (withField 20 100000000) ≡ refused 4) × (trialOf twoOpen termAndOc ≡ refused 4)
-  pub refused-14 : (trialOf twoOpen (saving 5250001) ≡ refused 14) × (trialOf twoOpen ocAndOrder ≡ refused 14)
-  pub refused-5 : trialOf twoOpen unordered ≡ refused 5
+  pub refused-1 : trialOf twoOpen allFourteen noFields ≡ refused 1
+  pub refused-2 : (trialOf twoOpen allFourteen (withField 94 0) ≡ refused 2) × (trialOf twoOpen allFourteen bothWrong ≡ refused 2) × (trialOf twoOpen allFourteen (splitAt 1001) ≡ refused 2)
+  pub refused-3 : trialOf twoOpen allFourteen (forPeriod 2023 13 1) ≡ refused 3
+  pub refused-4 : (trialOf twoOpen allFourteen (withField 20 100000000) ≡ refused 4) × (trialOf twoOpen allFourteen termAndOc ≡ refused 4)
+  pub refused-14 : (trialOf twoOpen allFourteen (saving 5250001) ≡ refused 14) × (trialOf twoOpen allFourteen ocAndOrder ≡ refused 14)
+  pub refused-5 : trialOf twoOpen allFourteen unordered ≡ refused 5

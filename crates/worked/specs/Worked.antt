@@ -4,11 +4,13 @@ use mathlib.Core.Path.{_≡_}
 use mathlib.Core.List.{List, [], _∷_, map}
 use lib.IntN.{pos}
 use Prim.Native.Nat.{ℕ}
+use Rattle.desks.specs.Desks.{allFourteen}
 use Rattle.verdict.specs.Cells.{cell}
 use Rattle.book.specs.declared.Book.{Book}
 use Rattle.book.specs.Calls.{Sheet, Record, Act, SET, PUT, OPEN, CLOSE, DROP, UNDO, ASK, CONFIRM, call, Answer, accepted, cells, refused, over}
 use Rattle.book.specs.Book.{fresh, bookAfter}
-use Rattle.queries.specs.Queries.{quotation, quoteOf}
+use Rattle.queries.specs.Queries.{quotation}
+use Rattle.quoting.specs.Quote.{quoteOf}
 use Rattle.reference.specs.SheetS.{sheetS, withSplit, periodS, inRegion, flat, tiered}
 use Rattle.reference.specs.Starred.{firstOther}
 use Rattle.reference.specs.Splits.{dayDear}
@@ -48,7 +50,7 @@ steep = tiered 20000 20000 100 15000
 abbrev pub dearIn5 : Record
 dearIn5 = withMore (inRegion 5 960)
 
--- the answers to such a list, and the book that it leaves
+-- the answers to such a list of a desk with all fourteen regions, and the book that it leaves
 abbrev pub answersTo : List Act → List Answer
 answersTo acts = answersAfter [] (map call acts)
 
@@ -116,12 +118,12 @@ pub record Worked : Type 0 where
   pub put-over : answersTo (PUT 1 high ∷ OPEN 1 ∷ OPEN 2 ∷ SET quarter ∷ OPEN 1 ∷ PUT 1 low ∷ OPEN 1 ∷ [])
       ≡ accepted ∷ refused 10 ∷ refused 9 ∷ accepted ∷ over firstOther (0 ∷ 0 ∷ 0 ∷ []) (pos 1332000000) ∷ accepted ∷ cells 28 ∷ []
   -- QUOTE of the tiered tariff for 300 kWh in one month: its charge is below the maximum
-  pub quoted : quoteOf (bookOf (SET quarter ∷ PUT 7 steep ∷ [])) 7 0 1 (300 ∷ 0 ∷ 0 ∷ [])
+  pub quoted : quoteOf (bookOf (SET quarter ∷ PUT 7 steep ∷ [])) allFourteen 7 0 1 (300 ∷ 0 ∷ 0 ∷ [])
       ≡ quotation (record { charge = 246240000000000; maximum = 279704700000000 })
   -- QUOTE of one tariff in two regions, in one of which it has a standing charge of its own
-  pub quoted-in-4 : quoteOf (bookOf (SET quarter ∷ PUT 7 dearIn5 ∷ [])) 7 4 1 (100 ∷ 200 ∷ 300 ∷ [])
+  pub quoted-in-4 : quoteOf (bookOf (SET quarter ∷ PUT 7 dearIn5 ∷ [])) allFourteen 7 4 1 (100 ∷ 200 ∷ 300 ∷ [])
       ≡ quotation (record { charge = 464976000000000; maximum = 480051900000000 })
-  pub quoted-in-5 : quoteOf (bookOf (SET quarter ∷ PUT 7 dearIn5 ∷ [])) 7 5 1 (100 ∷ 200 ∷ 300 ∷ [])
+  pub quoted-in-5 : quoteOf (bookOf (SET quarter ∷ PUT 7 dearIn5 ∷ [])) allFourteen 7 5 1 (100 ∷ 200 ∷ 300 ∷ [])
       ≡ quotation (record { charge = 468155520000000; maximum = 480051900000000 })
   -- the tiered tariff, refused at 100, 100, 100; then dropped, and the place is empty
   pub tiers : answersTo (SET quarter ∷ PUT 7 steep ∷ OPEN 7 ∷ DROP 7 ∷ OPEN 7 ∷ [])

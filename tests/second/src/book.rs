@@ -1,5 +1,6 @@
 //! The book: a cost sheet, or none, and 32 places.
 
+use crate::regions::DeskRegions;
 use crate::sheet::{Breach, Sheet, SheetError, METHODS, REGIONS};
 use crate::tariff::{Tariff, MONTH_LIMIT, WHOLE};
 
@@ -27,6 +28,7 @@ pub enum Refusal {
     OcBelowZero = 14,
     NothingToUndo = 15,
     NotMarked = 16,
+    OutsideDesk = 17,
 }
 
 impl Refusal {
@@ -100,6 +102,15 @@ enum Place {
     Open(Tariff),
 }
 
+impl Place {
+    fn tariff(&self) -> Option<&Tariff> {
+        match self {
+            Place::Empty => None,
+            Place::Draft(tariff) | Place::Open(tariff) => Some(tariff),
+        }
+    }
+}
+
 /// How to take back a SET.
 #[derive(Clone, Debug, PartialEq, Eq)]
 struct Step {
@@ -140,7 +151,15 @@ impl Book {
 
     /// Replaces the sheet; open tariffs that exceed under it become drafts, and no draft is marked
     /// any more.
-    pub fn set(&mut self, year: u32, month: u32, t: u32, fields: &[u32]) -> Result<(), Refusal> {
+    pub fn set_by(
+        &mut self,
+        desk: DeskRegions,
+        year: u32,
+        month: u32,
+        t: u32,
+        fields: &[u32],
+    ) -> Result<(), Refusal> {
+        all_fourteen(desk)?;
         let sheet = Sheet::new(year, month, t, fields)?;
         let mut fallen = 0;
         for (index, place) in self.places.iter_mut().enumerate() {
@@ -162,7 +181,8 @@ impl Book {
     /// Takes back the last SET, if no place has been changed or marked since: the sheet before it,
     /// or none, is in force again, what it made drafts is open, and the marks that it cleared are
     /// there. One SET can be taken back, and not the one before it.
-    pub fn undo(&mut self) -> Result<(), Refusal> {
+    pub fn undo_by(&mut self, desk: DeskRegions) -> Result<(), Refusal> {
+        all_fourteen(desk)?;
         let step = self.step.take().ok_or(Refusal::NothingToUndo)?;
         let Step {
             sheet,
@@ -182,9 +202,16 @@ impl Book {
 
     /// The set of codes that SET would make drafts, bit code - 1 for each: it is done on a copy,
     /// and the book itself is untouched.
-    pub fn trial(&self, year: u32, month: u32, t: u32, fields: &[u32]) -> Result<u32, Refusal> {
+    pub fn trial_by(
+        &self,
+        desk: DeskRegions,
+        year: u32,
+        month: u32,
+        t: u32,
+        fields: &[u32],
+    ) -> Result<u32, Refusal> {
         let mut copy = self.clone();
-        copy.set(year, month, t, fields)?;
+        copy.set_by(desk, year, month, t, fields)?;
         let mut fallen = 0;
         for code in 1..=PLACES as u32 {
             let (before, after) = (self.state(code), copy.state(code));
@@ -195,27 +222,33 @@ impl Book {
         Ok(fallen)
     }
 
-    /// Puts a tariff record into a place as a draft without a mark, over any draft.
-    pub fn put(&mut self, code: u32, numbers: &[u32]) -> Result<(), Refusal> {
+    /// Puts a tariff record into a place as a draft without a mark, over any draft that is the
+    /// desk's own.
+    pub fn put_by(&mut self, desk: DeskRegions, code: u32, numbers: &[u32]) -> Result<(), Refusal> {
         let index = index(code)?;
-        if let Place::Open(_) = self.places[index] {
+        let place = &self.places[index];
+        if let Place::Open(_) = place {
             return Err(Refusal::PlaceOpen);
         }
         let tariff = Tariff::new(numbers).ok_or(Refusal::Record)?;
+        if let Some(old) = place.tariff() {
+            inside(desk, old)?;
+        }
+        inside(desk, &tariff)?;
         self.change(index, Place::Draft(tariff));
         Ok(())
     }
 
     /// Opens a draft that is within the cap in all its cells, and gives their number.
-    pub fn open(&mut self, code: u32) -> Result<u32, NotOpened> {
-        let (index, &tariff) = self.draft_within_the_cap(code)?;
+    pub fn open_by(&mut self, desk: DeskRegions, code: u32) -> Result<u32, NotOpened> {
+        let (index, &tariff) = self.draft_within_the_cap(desk, code)?;
         self.change(index, Place::Open(tariff));
         Ok(tariff.cells())
     }
 
     /// Marks a draft that OPEN would open, marked or not, and gives the number of its cells.
-    pub fn ask(&mut self, code: u32) -> Result<u32, NotOpened> {
-        let (index, tariff) = self.draft_within_the_cap(code)?;
+    pub fn ask_by(&mut self, desk: DeskRegions, code: u32) -> Result<u32, NotOpened> {
+        let (index, tariff) = self.draft_within_the_cap(desk, code)?;
         let cells = tariff.cells();
         self.marks |= 1 << index;
         self.step = None;
@@ -224,8 +257,8 @@ impl Book {
 
     /// Opens a marked draft, and gives the number of its cells. The cap needs no second look: the
     /// sheet is the one that the draft was marked under.
-    pub fn confirm(&mut self, code: u32) -> Result<u32, Refusal> {
-        let (index, &tariff) = self.draft(code)?;
+    pub fn confirm_by(&mut self, desk: DeskRegions, code: u32) -> Result<u32, Refusal> {
+        let (index, &tariff) = self.draft(desk, code)?;
         if self.marks >> index & 1 == 0 {
             return Err(Refusal::NotMarked);
         }
@@ -234,28 +267,26 @@ impl Book {
     }
 
     /// Makes an open tariff a draft again, without a mark.
-    pub fn close(&mut self, code: u32) -> Result<(), Refusal> {
-        let index = index(code)?;
-        match self.places[index] {
-            Place::Empty => Err(Refusal::PlaceEmpty),
-            Place::Draft(_) => Err(Refusal::NotOpen),
-            Place::Open(tariff) => {
-                self.change(index, Place::Draft(tariff));
-                Ok(())
-            }
+    pub fn close_by(&mut self, desk: DeskRegions, code: u32) -> Result<(), Refusal> {
+        let (index, &tariff) = self.used(desk, code)?;
+        if let Place::Draft(_) = self.places[index] {
+            return Err(Refusal::NotOpen);
         }
+        self.change(index, Place::Draft(tariff));
+        Ok(())
     }
 
     /// Empties a place that holds a draft.
-    pub fn drop_code(&mut self, code: u32) -> Result<(), Refusal> {
-        let (index, _) = self.draft(code)?;
+    pub fn drop_code_by(&mut self, desk: DeskRegions, code: u32) -> Result<(), Refusal> {
+        let (index, _) = self.draft(desk, code)?;
         self.change(index, Place::Empty);
         Ok(())
     }
 
     /// The Benchmark Maximum Charge in mills; level 0 is nil, 1 is m.
-    pub fn benchmark(
+    pub fn benchmark_by(
         &self,
+        desk: DeskRegions,
         region: u32,
         arrangement: u32,
         method: u32,
@@ -265,6 +296,7 @@ impl Book {
         if level > 1 {
             return Err(Refusal::Argument);
         }
+        own_region(desk, region)?;
         let sheet = self.sheet.as_ref().ok_or(Refusal::NoSheet)?;
         let benchmark = sheet.benchmark(region, arrangement, method);
         Ok(if level == 0 {
@@ -275,8 +307,9 @@ impl Book {
     }
 
     /// The Relevant Maximum Charge for a total consumption of the period.
-    pub fn maximum(
+    pub fn maximum_by(
         &self,
+        desk: DeskRegions,
         region: u32,
         arrangement: u32,
         method: u32,
@@ -286,6 +319,7 @@ impl Book {
         if total > TOTAL_LIMIT {
             return Err(Refusal::Argument);
         }
+        own_region(desk, region)?;
         let sheet = self.sheet.as_ref().ok_or(Refusal::NoSheet)?;
         Ok(Maximum {
             number: sheet.maximum(region, arrangement, method, u64::from(total)),
@@ -294,17 +328,16 @@ impl Book {
     }
 
     /// The charge of a tariff, draft or open, for a list of months, and its maximum.
-    pub fn quote(
+    pub fn quote_by(
         &self,
+        desk: DeskRegions,
         code: u32,
         region: u32,
         method: u32,
         months: &[u32],
     ) -> Result<Quote, Refusal> {
-        let tariff = match &self.places[index(code)?] {
-            Place::Empty => return Err(Refusal::PlaceEmpty),
-            Place::Draft(tariff) | Place::Open(tariff) => tariff,
-        };
+        let place = &self.places[index(code)?];
+        let tariff = place.tariff().ok_or(Refusal::PlaceEmpty)?;
         let sheet = self.sheet.as_ref().ok_or(Refusal::NoSheet)?;
         if !tariff.offers_region(region)
             || !tariff.offers_method(method)
@@ -313,6 +346,7 @@ impl Book {
         {
             return Err(Refusal::Argument);
         }
+        inside(desk, tariff)?;
         let (region, method) = (region as usize, method as usize);
         let arrangement = tariff.arrangement();
         let whole = u64::from(WHOLE);
@@ -347,19 +381,30 @@ impl Book {
         self.sheet.as_ref().map(|sheet| sheet.t)
     }
 
-    /// The draft of a code: refusals 6, 9 and 7.
-    fn draft(&self, code: u32) -> Result<(usize, &Tariff), Refusal> {
+    /// The tariff of a code, as a desk may use it: refusals 6, 9 and 17.
+    fn used(&self, desk: DeskRegions, code: u32) -> Result<(usize, &Tariff), Refusal> {
         let index = index(code)?;
-        match &self.places[index] {
-            Place::Empty => Err(Refusal::PlaceEmpty),
-            Place::Open(_) => Err(Refusal::PlaceOpen),
-            Place::Draft(tariff) => Ok((index, tariff)),
+        let tariff = self.places[index].tariff().ok_or(Refusal::PlaceEmpty)?;
+        inside(desk, tariff)?;
+        Ok((index, tariff))
+    }
+
+    /// The same if it is a draft, and so 7 after them.
+    fn draft(&self, desk: DeskRegions, code: u32) -> Result<(usize, &Tariff), Refusal> {
+        let (index, tariff) = self.used(desk, code)?;
+        if let Place::Open(_) = self.places[index] {
+            return Err(Refusal::PlaceOpen);
         }
+        Ok((index, tariff))
     }
 
     /// The same with all the checks of OPEN, and so 10 and 11 after them.
-    fn draft_within_the_cap(&self, code: u32) -> Result<(usize, &Tariff), NotOpened> {
-        let (index, tariff) = self.draft(code)?;
+    fn draft_within_the_cap(
+        &self,
+        desk: DeskRegions,
+        code: u32,
+    ) -> Result<(usize, &Tariff), NotOpened> {
+        let (index, tariff) = self.draft(desk, code)?;
         let sheet = self.sheet.as_ref().ok_or(Refusal::NoSheet)?;
         match sheet.first_breach(tariff) {
             Some(breach) => Err(NotOpened::OverCap(breach)),
@@ -372,6 +417,75 @@ impl Book {
         self.places[index] = place;
         self.marks &= !(1 << index);
         self.step = None;
+    }
+}
+
+/// The calls as a desk with all fourteen regions makes them.
+impl Book {
+    pub fn set(&mut self, year: u32, month: u32, t: u32, fields: &[u32]) -> Result<(), Refusal> {
+        self.set_by(DeskRegions::ALL, year, month, t, fields)
+    }
+
+    pub fn undo(&mut self) -> Result<(), Refusal> {
+        self.undo_by(DeskRegions::ALL)
+    }
+
+    pub fn trial(&self, year: u32, month: u32, t: u32, fields: &[u32]) -> Result<u32, Refusal> {
+        self.trial_by(DeskRegions::ALL, year, month, t, fields)
+    }
+
+    pub fn put(&mut self, code: u32, numbers: &[u32]) -> Result<(), Refusal> {
+        self.put_by(DeskRegions::ALL, code, numbers)
+    }
+
+    pub fn open(&mut self, code: u32) -> Result<u32, NotOpened> {
+        self.open_by(DeskRegions::ALL, code)
+    }
+
+    pub fn ask(&mut self, code: u32) -> Result<u32, NotOpened> {
+        self.ask_by(DeskRegions::ALL, code)
+    }
+
+    pub fn confirm(&mut self, code: u32) -> Result<u32, Refusal> {
+        self.confirm_by(DeskRegions::ALL, code)
+    }
+
+    pub fn close(&mut self, code: u32) -> Result<(), Refusal> {
+        self.close_by(DeskRegions::ALL, code)
+    }
+
+    pub fn drop_code(&mut self, code: u32) -> Result<(), Refusal> {
+        self.drop_code_by(DeskRegions::ALL, code)
+    }
+
+    pub fn benchmark(
+        &self,
+        region: u32,
+        arrangement: u32,
+        method: u32,
+        level: u32,
+    ) -> Result<u32, Refusal> {
+        self.benchmark_by(DeskRegions::ALL, region, arrangement, method, level)
+    }
+
+    pub fn maximum(
+        &self,
+        region: u32,
+        arrangement: u32,
+        method: u32,
+        total: u32,
+    ) -> Result<Maximum, Refusal> {
+        self.maximum_by(DeskRegions::ALL, region, arrangement, method, total)
+    }
+
+    pub fn quote(
+        &self,
+        code: u32,
+        region: u32,
+        method: u32,
+        months: &[u32],
+    ) -> Result<Quote, Refusal> {
+        self.quote_by(DeskRegions::ALL, code, region, method, months)
     }
 }
 
@@ -389,4 +503,27 @@ fn cell(region: u32, arrangement: u32, method: u32) -> Result<(usize, usize, usi
         return Err(Refusal::Argument);
     }
     Ok((region as usize, arrangement as usize, method as usize))
+}
+
+fn inside_or_17(is_inside: bool) -> Result<(), Refusal> {
+    if is_inside {
+        Ok(())
+    } else {
+        Err(Refusal::OutsideDesk)
+    }
+}
+
+/// SET, TRIAL and UNDO are for a desk with all fourteen regions.
+fn all_fourteen(desk: DeskRegions) -> Result<(), Refusal> {
+    inside_or_17(desk.has_all())
+}
+
+/// A desk may use a tariff that is offered in its regions alone.
+fn inside(desk: DeskRegions, tariff: &Tariff) -> Result<(), Refusal> {
+    inside_or_17(desk.hold(tariff.regions()))
+}
+
+/// It may query its own regions.
+fn own_region(desk: DeskRegions, region: usize) -> Result<(), Refusal> {
+    inside_or_17(desk.hold(1 << region))
 }

@@ -31,7 +31,7 @@ const SILENT: [&[u8]; 8] = [
 ];
 
 /// Lines that have an answer whatever the book holds.
-const ANSWERED: [&[u8]; 16] = [
+const ANSWERED: [&[u8]; 22] = [
     b"open 33",
     b"open",
     b"opens 1",
@@ -48,6 +48,12 @@ const ANSWERED: [&[u8]; 16] = [
     b"ask",
     b"  confirm   0 \r",
     b"confirm 1 x",
+    b"desk 3 open 33",
+    b"  desk   0  undo \r",
+    b"desk",
+    b"desk 16383\r",
+    b"desk 4294967296 undo",
+    b"desk 3 # open 1",
 ];
 
 struct Conversation {
@@ -122,6 +128,9 @@ impl Conversation {
                 }
                 if self.line.starts_with(b"confirm ") {
                     self.tally.one("confirms answered in conversation");
+                }
+                if self.line.starts_with(b"desk ") {
+                    self.tally.one("lines of desks answered in conversation");
                 }
             }
         }
@@ -285,6 +294,9 @@ impl Conversation {
                 b"undo",
                 b"ask 33",
                 b"confirm 33",
+                b"desk 3 open 33",
+                b"desk 0 undo",
+                b"desk 16383",
             ])
             .to_vec();
         let length = LINE_LIMIT - 1 + self.random.index(4);

@@ -4,11 +4,12 @@
 use std::cmp::Ordering;
 use std::fmt::Write;
 
-use crate::book::{Book, NotOpened, State, PLACES};
+use crate::book::{Book, NotOpened, Refusal, State, PLACES};
 use crate::period_days;
 use crate::sheet::{field_range, field_value, FIELDS};
 use crate::tally::Tally;
 use crate::tariff::{MONTH_LIMIT, RATE_LIMIT, RECORD, REGIONAL, STANDING_LIMIT, WHOLE};
+use desks::is_part;
 use marks::Mark;
 use regions::Quoted;
 use savings::is_saving;
@@ -45,6 +46,10 @@ pub struct Counts {
     marks: [Mark; PLACES],
     /// The set of codes that CONFIRM opened last.
     confirmed: u32,
+    /// The set of codes that a desk without all fourteen opened last, by either road.
+    opened_by_part: u32,
+    /// The desk that makes the call, if it is named.
+    desk: Option<u32>,
     records: [[u32; RECORD]; PLACES],
     used: [bool; PLACES],
     open: [bool; PLACES],
@@ -73,6 +78,8 @@ impl Default for Counts {
             in_a_row: 0,
             marks: [Mark::default(); PLACES],
             confirmed: 0,
+            opened_by_part: 0,
+            desk: None,
             records: [[0; RECORD]; PLACES],
             used: [false; PLACES],
             open: [false; PLACES],
@@ -92,6 +99,7 @@ macro_rules! count {
     }};
 }
 
+mod desks;
 mod marks;
 mod regions;
 mod savings;
@@ -114,6 +122,8 @@ impl Counts {
         self.in_a_row = 0;
         self.marks = [Mark::default(); PLACES];
         self.confirmed = 0;
+        self.opened_by_part = 0;
+        self.desk = None;
         self.used = [false; PLACES];
         self.open = [false; PLACES];
     }
@@ -130,11 +140,14 @@ impl Counts {
             .unwrap_or(line)
             .split(|&byte| byte == b' ')
             .filter(|word| !word.is_empty());
-        let call = words.next().unwrap_or_default();
+        let mut call = words.next().unwrap_or_default();
         if let Some(error) = answer.strip_prefix("error line ") {
             self.no_call(Last::NoCall);
             let kind = error.split_once(": ").map_or(error, |(_, kind)| kind);
-            if kind.ends_with("is not a number from 0 to 4294967295") {
+            if call == b"desk" {
+                let words: Vec<&[u8]> = std::iter::once(call).chain(words).collect();
+                self.no_call_by_a_desk(&words, kind);
+            } else if kind.ends_with("is not a number from 0 to 4294967295") {
                 count!(
                     self,
                     "error: not a number, {}",
@@ -145,11 +158,18 @@ impl Counts {
             }
             return;
         }
+        self.desk = None;
+        if call == b"desk" {
+            let desk = words.next().unwrap_or_default();
+            self.desk = Some(value(desk) as u32);
+            if desk.len() > 10 {
+                self.tally.one("desks of more than 10 digits");
+            }
+            call = words.next().unwrap_or_default();
+        }
         self.numbers.clear();
         for word in words {
-            let value = word
-                .iter()
-                .fold(0, |value, digit| 10 * value + u64::from(digit - b'0'));
+            let value = value(word);
             self.numbers.push(value as u32);
             if word.len() > 10 {
                 self.tally.one("numbers of more than 10 digits");
@@ -176,27 +196,56 @@ impl Counts {
         let numbers = std::mem::take(&mut self.numbers);
         let values = std::mem::take(&mut self.values);
         let refusal = if ok { 0 } else { values[0] };
-        self.after_trial(call, &numbers, refusal);
-        self.under_a_saving(call, refusal, &values);
+        if let Some(desk) = self.desk {
+            self.by_desk(desk, call, &numbers, refusal, book);
+        }
+        if refusal == 17 {
+            assert!(self.desk.is_some(), "{call} without a desk was outside it");
+            // Nothing was looked at but the desk.
+            self.quoted = None;
+            self.trial_is_past();
+            let chance = self.chance.is_some();
+            self.after_marks(call, &numbers, refusal, &values, book);
+            self.after_call(call, refusal, chance);
+        } else {
+            self.looked_at(call, &numbers, refusal, &values, book);
+        }
+        self.numbers = numbers;
+        self.values = values;
+    }
+
+    /// A call that was not outside the desk, or was refused before that was looked at.
+    fn looked_at(
+        &mut self,
+        call: &str,
+        numbers: &[u32],
+        refusal: u64,
+        values: &[u64],
+        book: &Book,
+    ) {
+        let ok = refusal == 0;
+        self.after_trial(call, numbers, refusal);
+        self.under_a_saving(call, refusal, values);
         self.under_another_split(call, refusal);
-        self.after_another_peak_share(call, &numbers, refusal);
-        self.after_undo(call, &numbers, refusal, &values, book);
+        self.after_another_peak_share(call, numbers, refusal);
+        self.after_undo(call, numbers, refusal, values, book);
         let chance = self.chance.is_some();
         if ["set", "trial"].contains(&call) {
             self.smncc(call, &numbers[3..], refusal);
-            self.peak_share(call, &numbers, refusal);
+            self.peak_share(call, numbers, refusal);
         }
         if call != "quote" {
             self.quoted = None;
         }
         match call {
-            "set" => self.set(&numbers, refusal, book),
+            "set" => self.set(numbers, refusal, book),
             "undo" => self.undo(refusal, book),
-            "trial" => self.trial(&numbers, refusal, &values, book),
-            "put" if ok => self.put(&numbers),
+            "trial" => self.trial(numbers, refusal, values, book),
+            "put" if ok => self.put(numbers),
             "put" if refusal == 8 => self.refused_record(&numbers[1..]),
-            "open" => self.open(&numbers, refusal, &values),
+            "open" => self.open(numbers, refusal, values),
             "close" if ok => {
+                self.closed_by(numbers[0] as usize - 1);
                 self.open[numbers[0] as usize - 1] = false;
                 self.tally.different("codes closed", numbers[0].into());
             }
@@ -204,14 +253,12 @@ impl Counts {
                 self.used[numbers[0] as usize - 1] = false;
                 self.tally.different("codes dropped", numbers[0].into());
             }
-            "benchmark" | "maximum" => self.question(call, &numbers, refusal, &values),
-            "quote" => self.quote(&numbers, refusal, &values),
+            "benchmark" | "maximum" => self.question(call, numbers, refusal, values),
+            "quote" => self.quote(numbers, refusal, values),
             _ => {}
         }
-        self.after_marks(call, &numbers, refusal, &values, book);
+        self.after_marks(call, numbers, refusal, values, book);
         self.after_call(call, refusal, chance);
-        self.numbers = numbers;
-        self.values = values;
     }
 
     fn set(&mut self, numbers: &[u32], refusal: u64, book: &Book) {
@@ -238,6 +285,9 @@ impl Counts {
         }
         if fallen & self.confirmed > 0 {
             self.tally.one("set: one that was confirmed falls");
+        }
+        if fallen & self.opened_by_part > 0 {
+            self.tally.one("set: one that a part desk opened falls");
         }
         self.same_set_after_undo(submitted, fallen);
         self.chance = Some(self.before_set());
@@ -431,6 +481,7 @@ impl Counts {
             0 => {
                 let record = self.records[place];
                 self.open[place] = true;
+                self.opened_by(place);
                 self.tally.different("codes opened", numbers[0].into());
                 self.tally.different("numbers of cells opened", values[0]);
                 self.shape("opened", &record);
@@ -595,6 +646,12 @@ impl Counts {
             _ => {}
         }
     }
+}
+
+/// The value of a word that is a number.
+fn value(word: &[u8]) -> u64 {
+    word.iter()
+        .fold(0, |value, digit| 10 * value + u64::from(digit - b'0'))
 }
 
 /// The name of a count for SET, and of the same one for TRIAL.

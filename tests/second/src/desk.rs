@@ -3,6 +3,7 @@
 use std::io::BufRead;
 
 use crate::book::{Book, NotOpened, Refusal};
+use crate::regions::DeskRegions;
 
 /// The longest line taken, its line feed not counted.
 pub const LINE_LIMIT: usize = 16_384;
@@ -63,6 +64,7 @@ impl Call {
 /// A line that is no call.
 enum LineError {
     TooLong,
+    Desk,
     UnknownCall,
     NotANumber(usize),
     Count(Call),
@@ -167,43 +169,54 @@ impl Desk {
             return Ok(());
         }
         let line = &line[start..];
-        let end = line.iter().position(|&byte| byte == b' ');
-        let (word, rest) = line.split_at(end.unwrap_or(line.len()));
+        let (mut word, mut rest) = first_word(line);
+        let mut desk = DeskRegions::ALL;
+        // The words up to the call's own.
+        let mut words = 1;
+        if word == b"desk" {
+            let (set, after) = first_word(rest);
+            desk = DeskRegions::new(number(set).ok_or(LineError::Desk)?);
+            (word, rest) = first_word(after);
+            words = 3;
+            if word.is_empty() {
+                return Err(LineError::Desk);
+            }
+        }
         let call = Call::from_word(word).ok_or(LineError::UnknownCall)?;
-        read_numbers(rest, &mut self.numbers)?;
-        self.call(call, out)
+        read_numbers(rest, words, &mut self.numbers)?;
+        self.call(desk, call, out)
     }
 
-    fn call(&mut self, call: Call, out: &mut Vec<u8>) -> Result<(), LineError> {
+    fn call(&mut self, desk: DeskRegions, call: Call, out: &mut Vec<u8>) -> Result<(), LineError> {
         let book = &mut self.book;
         match (call, &self.numbers[..]) {
             (Call::Set, &[year, month, t, ref fields @ ..]) => {
-                accepted(book.set(year, month, t, fields), out)
+                accepted(book.set_by(desk, year, month, t, fields), out)
             }
-            (Call::Undo, &[]) => accepted(book.undo(), out),
+            (Call::Undo, &[]) => accepted(book.undo_by(desk), out),
             (Call::Trial, &[year, month, t, ref fields @ ..]) => {
-                match book.trial(year, month, t, fields) {
+                match book.trial_by(desk, year, month, t, fields) {
                     Ok(fallen) => values(&[u64::from(fallen)], out),
                     Err(refusal) => refused(refusal, out),
                 }
             }
-            (Call::Put, &[code, ref record @ ..]) => accepted(book.put(code, record), out),
-            (Call::Open, &[code]) => cells_or_breach(book.open(code), out),
-            (Call::Ask, &[code]) => cells_or_breach(book.ask(code), out),
-            (Call::Confirm, &[code]) => match book.confirm(code) {
+            (Call::Put, &[code, ref record @ ..]) => accepted(book.put_by(desk, code, record), out),
+            (Call::Open, &[code]) => cells_or_breach(book.open_by(desk, code), out),
+            (Call::Ask, &[code]) => cells_or_breach(book.ask_by(desk, code), out),
+            (Call::Confirm, &[code]) => match book.confirm_by(desk, code) {
                 Ok(cells) => values(&[u64::from(cells)], out),
                 Err(refusal) => refused(refusal, out),
             },
-            (Call::Close, &[code]) => accepted(book.close(code), out),
-            (Call::Drop, &[code]) => accepted(book.drop_code(code), out),
+            (Call::Close, &[code]) => accepted(book.close_by(desk, code), out),
+            (Call::Drop, &[code]) => accepted(book.drop_code_by(desk, code), out),
             (Call::Benchmark, &[region, arrangement, method, level]) => {
-                match book.benchmark(region, arrangement, method, level) {
+                match book.benchmark_by(desk, region, arrangement, method, level) {
                     Ok(charge) => values(&[u64::from(charge)], out),
                     Err(refusal) => refused(refusal, out),
                 }
             }
             (Call::Maximum, &[region, arrangement, method, total]) => {
-                match book.maximum(region, arrangement, method, total) {
+                match book.maximum_by(desk, region, arrangement, method, total) {
                     Ok(maximum) => {
                         values(&[maximum.number, u64::from(maximum.denominator)], out);
                     }
@@ -211,7 +224,7 @@ impl Desk {
                 }
             }
             (Call::Quote, &[code, region, method, ref months @ ..]) => {
-                match book.quote(code, region, method, months) {
+                match book.quote_by(desk, code, region, method, months) {
                     Ok(quote) => values(&[quote.charge, quote.maximum], out),
                     Err(refusal) => refused(refusal, out),
                 }
@@ -227,6 +240,7 @@ impl Desk {
         out.extend_from_slice(b": ");
         match error {
             LineError::TooLong => out.extend_from_slice(b"longer than 16384 bytes"),
+            LineError::Desk => out.extend_from_slice(b"desk takes a number and a call"),
             LineError::UnknownCall => out.extend_from_slice(b"unknown call"),
             LineError::NotANumber(word) => {
                 out.extend_from_slice(b"word");
@@ -239,8 +253,27 @@ impl Desk {
     }
 }
 
-/// Reads the words after the call's own into `numbers`.
-fn read_numbers(rest: &[u8], numbers: &mut Vec<u32>) -> Result<(), LineError> {
+/// The first word, or an empty one, and what comes after it.
+fn first_word(text: &[u8]) -> (&[u8], &[u8]) {
+    let start = text.iter().position(|&byte| byte != b' ');
+    let text = &text[start.unwrap_or(text.len())..];
+    let end = text.iter().position(|&byte| byte == b' ');
+    text.split_at(end.unwrap_or(text.len()))
+}
+
+/// The value of a word, if it is a number from 0 to 4294967295.
+fn number(word: &[u8]) -> Option<u32> {
+    if word.is_empty() {
+        return None;
+    }
+    word.iter().try_fold(0u32, |value, byte| {
+        let digit = byte.checked_sub(b'0').filter(|digit| *digit < 10)?;
+        value.checked_mul(10)?.checked_add(digit.into())
+    })
+}
+
+/// Reads the words after the call's own into `numbers`; so many words come before them.
+fn read_numbers(rest: &[u8], words: usize, numbers: &mut Vec<u32>) -> Result<(), LineError> {
     numbers.clear();
     let mut bytes = rest.iter();
     // The value of the word being read, if one has begun.
@@ -262,8 +295,8 @@ fn read_numbers(rest: &[u8], numbers: &mut Vec<u32>) -> Result<(), LineError> {
             Some(_) => break,
         }
     }
-    // The call's own word is word 1.
-    Err(LineError::NotANumber(numbers.len() + 2))
+    // Counted from 1 over the whole line.
+    Err(LineError::NotANumber(words + numbers.len() + 1))
 }
 
 fn accepted(answer: Result<(), Refusal>, out: &mut Vec<u8>) {

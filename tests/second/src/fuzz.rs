@@ -94,6 +94,7 @@ impl Fuzz {
         let undo = some_line(|line| line == b"undo");
         let ask = some_line(|line| line.starts_with(b"ask "));
         let confirm = some_line(|line| line.starts_with(b"confirm "));
+        let desk = some_line(|line| line.starts_with(b"desk "));
 
         let ways = ["from a file", "in one write", "in pieces"];
         let way = random.index(ways.len());
@@ -142,6 +143,9 @@ impl Fuzz {
         }
         if confirm {
             tally.one("fuzz: inputs with a confirm");
+        }
+        if desk {
+            tally.one("fuzz: inputs with a desk");
         }
         tally.one(&format!("fuzz: {sort}"));
         tally.one(&format!("fuzz: inputs read {}", ways[way]));
@@ -262,7 +266,12 @@ impl Case<'_> {
     }
 
     fn line_of(&mut self, kind: usize, length: usize) -> Vec<u8> {
-        let calls: [&[u8]; 9] = [
+        let calls: [&[u8]; 14] = [
+            b"desk 3 open 33",
+            b"desk 0 undo",
+            b"desk 16383 benchmark 13 1 1 1",
+            b"desk 4294967295 confirm x",
+            b"desk 3",
             b"open 33",
             b"ask 33",
             b"confirm 1",
@@ -292,7 +301,17 @@ impl Case<'_> {
                 line.extend_from_slice(numbers);
             }
             6 => {
-                let calls: [&[u8]; 6] = [b"set", b"put", b"quote", b"trial", b"undo", b"ask"];
+                let calls: [&[u8]; 9] = [
+                    b"set",
+                    b"put",
+                    b"quote",
+                    b"trial",
+                    b"undo",
+                    b"ask",
+                    b"desk",
+                    b"desk 16383 set",
+                    b"desk 3 put",
+                ];
                 line.extend_from_slice(self.random.pick(&calls));
                 while line.len() + 11 < length {
                     line.push(b' ');
@@ -423,7 +442,9 @@ impl Case<'_> {
         };
         // How often a byte is a line feed by intent.
         let feeds = self.random.pick(&[5, 60, 3_000, 60_000]);
-        let values = self.random.pick(&[&b"open 1\r# 0"[..], b"", b""]);
+        let values = self
+            .random
+            .pick(&[&b"open 1\r# 0"[..], b"desk 30 undo", b"", b""]);
         let mut seen = [false; 256];
         while self.input.len() < length {
             let byte = if self.random.one_in(feeds) {

@@ -4,7 +4,8 @@
 //! The book holds a cost sheet with its period, or none, and 32 places for tariffs.
 //! A tariff is open only while it stays within the Relevant Maximum Charge in every
 //! cell (offered region with offered payment method) and for every division of
-//! consumption between the months.
+//! consumption between the months. Each call is made by a desk with its own regions; the calls
+//! of a desk with all fourteen have names of their own.
 
 pub mod bars;
 mod book;
@@ -15,6 +16,7 @@ pub mod desk;
 pub mod fuzz;
 pub mod program;
 pub mod random;
+mod regions;
 pub mod runs;
 pub mod script;
 mod sheet;
@@ -24,6 +26,7 @@ mod tariff;
 
 pub use book::{Book, Maximum, NotOpened, Quote, Refusal, State, PLACES};
 pub use calendar::period_days;
+pub use regions::DeskRegions;
 pub use sheet::{
     common_sums, field_range, field_value, operating_costs, Breach, SheetError, COMMON_FIELDS,
     FIELDS, METHODS, PEAK_SHARE, REGIONS, SMNCC,

@@ -177,6 +177,41 @@ impl Running {
         unreachable!("the answers differ")
     }
 
+    /// Waits for so many answers, whatever they are, and gives them without their line feeds.
+    pub fn any_answers(&mut self, count: usize) -> Result<Vec<Vec<u8>>, String> {
+        let end = Instant::now() + self.limit;
+        let mut answers = Vec::with_capacity(count);
+        // The bytes of the answers so far.
+        let mut whole = 0;
+        loop {
+            while answers.len() < count {
+                let rest = &self.unread[whole..];
+                let Some(length) = rest.iter().position(|&byte| byte == b'\n') else {
+                    break;
+                };
+                answers.push(rest[..length].to_vec());
+                whole += length + 1;
+            }
+            if answers.len() == count {
+                self.unread.drain(..whole);
+                return Ok(answers);
+            }
+            let left = end.saturating_duration_since(Instant::now());
+            match self.output.recv_timeout(left) {
+                Ok(piece) => self.unread.extend(piece),
+                Err(RecvTimeoutError::Timeout) => {
+                    return Err(format!("no answer in time after {} answers", answers.len()))
+                }
+                Err(RecvTimeoutError::Disconnected) => {
+                    return Err(format!(
+                        "the output has ended after {} answers",
+                        answers.len()
+                    ))
+                }
+            }
+        }
+    }
+
     /// Waits a while, perhaps none, in which nothing may come.
     pub fn silence(&mut self, pause: Duration) -> Result<(), String> {
         if self.unread.is_empty() {

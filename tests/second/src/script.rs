@@ -4,6 +4,7 @@
 //! where the cap lies, and goes for the edges: tariffs at the cap and a mill to either
 //! side, worst months that tie, sheets at the edge of each refusal.
 
+mod desks;
 mod edges;
 mod lists;
 mod marks;
@@ -15,16 +16,19 @@ mod sheets;
 mod splits;
 mod tariffs;
 mod trials;
+mod two_books;
 mod undos;
 
 pub use edges::all_periods;
-pub use lists::{Beginning, BEGINNINGS, LISTS};
+pub use lists::{Beginning, BEGINNINGS, BEGINNINGS_WITH_DESKS, LISTS, LISTS_WITH_DESKS};
 pub(crate) use savings::SMNCC_EDGES;
 pub(crate) use splits::{is_share_edge, DRAFTED};
+pub use two_books::{two_books, Line, Said, TwoBooks};
 
 use crate::book::{Book, State};
 use crate::desk::LINE_LIMIT;
 use crate::random::Random;
+use crate::regions::DeskRegions;
 use crate::sheet::{
     field_range, field_value, operating_costs, COMMON_FIELDS, FIELDS, PEAK_SHARE, REGIONS, SMNCC,
 };
@@ -98,10 +102,11 @@ enum Turn {
     Ask,
     Confirm,
     Marks,
+    Desks,
 }
 
 /// Turns of a random script, by weight.
-const TURNS: [(Turn, u64); 20] = [
+const TURNS: [(Turn, u64); 21] = [
     (Turn::Set, 34),
     (Turn::Trial, 24),
     (Turn::Put, 170),
@@ -122,6 +127,7 @@ const TURNS: [(Turn, u64); 20] = [
     (Turn::Ask, 40),
     (Turn::Confirm, 30),
     (Turn::Marks, 16),
+    (Turn::Desks, 30),
 ];
 
 /// Turns of a speed script: one in a hundred is a sheet.
@@ -165,6 +171,19 @@ const FAR: [u32; 14] = [
     0xffff_ffff,
 ];
 
+/// Who makes the calls.
+#[derive(Clone, Copy, Debug, PartialEq, Eq)]
+enum Whose {
+    /// A desk with all fourteen regions, which is not named.
+    Unnamed,
+    /// This desk.
+    One(u32),
+    /// The same, and one that is not named for some of SET, TRIAL and UNDO.
+    Mostly(u32),
+    /// For each call another desk, chosen for it.
+    Each,
+}
+
 /// Writes a script part by part, whole lines in each, and keeps count of what it was written
 /// to reach.
 pub struct Writer {
@@ -177,6 +196,11 @@ pub struct Writer {
     before: Dated,
     records: [Option<[u32; RECORD]>; 32],
     breach: Option<(u32, Breach)>,
+    /// Desks are named in some of the lines.
+    desks: bool,
+    whose: Whose,
+    /// The set of regions that tariffs and questions are to be in, if there is one.
+    within: Option<u32>,
     /// Odd spacing, zeros and line ends.
     quirks: bool,
     /// Calls to be written.
@@ -214,6 +238,9 @@ impl Iterator for Writer {
                 Turn::Set if self.calls < self.bare && self.random.one_in(3) => {
                     self.first_sheet_taken_back();
                 }
+                Turn::Set if self.calls < self.bare && self.desks && self.random.one_in(4) => {
+                    self.for_all_fourteen();
+                }
                 Turn::Set if self.calls < self.bare => {
                     let mut dated = self.good_sheet();
                     self.spoil(&mut dated);
@@ -221,7 +248,7 @@ impl Iterator for Writer {
                         self.set(&dated);
                     }
                 }
-                turn => self.take(turn),
+                turn => self.take_by_some_desk(turn),
             }
         }
         if self.calls == self.limit && !self.ended {
@@ -273,11 +300,19 @@ pub fn speed_script(seed: u64, lines: usize) -> Vec<u8> {
 
 impl Book {
     fn set_dated(&mut self, dated: &Dated) -> Result<(), Refusal> {
-        self.set(dated.year, dated.month, dated.t, &dated.fields)
+        self.set_dated_by(DeskRegions::ALL, dated)
+    }
+
+    fn set_dated_by(&mut self, desk: DeskRegions, dated: &Dated) -> Result<(), Refusal> {
+        self.set_by(desk, dated.year, dated.month, dated.t, &dated.fields)
     }
 
     fn trial_dated(&self, dated: &Dated) -> Result<u32, Refusal> {
-        self.trial(dated.year, dated.month, dated.t, &dated.fields)
+        self.trial_dated_by(DeskRegions::ALL, dated)
+    }
+
+    fn trial_dated_by(&self, desk: DeskRegions, dated: &Dated) -> Result<u32, Refusal> {
+        self.trial_by(desk, dated.year, dated.month, dated.t, &dated.fields)
     }
 }
 
@@ -299,9 +334,16 @@ impl Dated {
 impl Writer {
     /// A writer of a random list of `calls` calls, with some other lines between them.
     pub fn new(seed: u64, calls: usize) -> Writer {
+        let mut writer = Writer::without_desks(seed, calls);
+        writer.desks = true;
+        writer
+    }
+
+    /// The same without the word `desk`.
+    pub fn without_desks(seed: u64, calls: usize) -> Writer {
         let mut writer = Writer::plain_lines(seed, calls);
         writer.quirks = true;
-        writer.bare = (calls / 20).min(1_000);
+        writer.bare = (calls / 20).min(1_900);
         writer
     }
 
@@ -318,6 +360,9 @@ impl Writer {
             before: reference(),
             records: [None; 32],
             breach: None,
+            desks: false,
+            whose: Whose::Unnamed,
+            within: None,
             quirks: false,
             limit,
             calls: 0,
@@ -341,38 +386,50 @@ impl Writer {
         self.tally
     }
 
+    /// Counts what the writer has in mind. A desk may be refused before it gets there.
     fn note(&mut self, what: &str) {
-        self.tally.one(what);
+        if self.whose == Whose::Unnamed {
+            self.tally.one(what);
+        }
     }
 
     // Lines.
 
     fn call(&mut self, word: &str, numbers: &[u32]) {
+        self.call_by_desk(word, numbers);
+    }
+
+    /// Writes a call, and gives the regions of the desk that makes it.
+    fn call_by_desk(&mut self, word: &str, numbers: &[u32]) -> DeskRegions {
+        let desk = self.desk_for(word, numbers);
+        self.write_call(desk, word, numbers);
+        desk.map_or(DeskRegions::ALL, DeskRegions::new)
+    }
+
+    fn write_call(&mut self, desk: Option<u32>, word: &str, numbers: &[u32]) {
         if self.calls == self.limit {
             return;
         }
-        let mut line = String::with_capacity(16 + 8 * numbers.len());
+        let mut line = String::with_capacity(32 + 8 * numbers.len());
         let odd = self.quirks && self.random.one_in(30);
         let zeros = self.quirks && self.random.one_in(40);
         if odd && self.random.one_in(2) {
             line.push_str(&" ".repeat(1 + self.random.index(3)));
         }
+        if let Some(desk) = desk {
+            line.push_str("desk");
+            self.next_number(&mut line, odd, zeros, desk);
+            self.spaces(&mut line, odd);
+        }
         line.push_str(word);
-        for number in numbers {
-            line.push(' ');
-            if odd && self.random.one_in(3) {
-                line.push_str(&" ".repeat(1 + self.random.index(4)));
-            }
-            if zeros && self.random.one_in(4) {
-                line.push_str(&"0".repeat(1 + self.random.index(25)));
-            }
-            line.push_str(&number.to_string());
+        for &number in numbers {
+            self.next_number(&mut line, odd, zeros, number);
         }
         if odd && self.random.one_in(2) {
             line.push_str("   ");
         }
         if line.len() >= LINE_LIMIT {
-            return self.call_plain(word, numbers);
+            return self.write_plain_call(desk, word, numbers);
         }
         if self.quirks && self.random.one_in(40) {
             line.push('\r');
@@ -381,15 +438,26 @@ impl Writer {
         self.line(line.as_bytes());
     }
 
-    fn call_plain(&mut self, word: &str, numbers: &[u32]) {
-        let mut line = word.to_string();
-        for number in numbers {
-            line.push(' ');
-            line.push_str(&number.to_string());
+    fn spaces(&mut self, line: &mut String, odd: bool) {
+        line.push(' ');
+        if odd && self.random.one_in(3) {
+            line.push_str(&" ".repeat(1 + self.random.index(4)));
         }
+    }
+
+    fn next_number(&mut self, line: &mut String, odd: bool, zeros: bool, number: u32) {
+        self.spaces(line, odd);
+        if zeros && self.random.one_in(4) {
+            line.push_str(&"0".repeat(1 + self.random.index(25)));
+        }
+        line.push_str(&number.to_string());
+    }
+
+    fn write_plain_call(&mut self, desk: Option<u32>, word: &str, numbers: &[u32]) {
+        let line = plain_line(desk, word, numbers);
         assert!(line.len() <= LINE_LIMIT);
         self.calls += 1;
-        self.line(line.as_bytes());
+        self.line(&line);
     }
 
     fn line(&mut self, line: &[u8]) {
@@ -398,8 +466,8 @@ impl Writer {
     }
 
     fn set(&mut self, dated: &Dated) {
-        self.call("set", &dated.numbers());
-        if self.book.set_dated(dated).is_ok() {
+        let desk = self.call_by_desk("set", &dated.numbers());
+        if self.book.set_dated_by(desk, dated).is_ok() {
             self.scratch.set_dated(dated).expect("a sheet taken before");
             self.before = std::mem::replace(&mut self.sheet, dated.clone());
             self.breach = None;
@@ -407,8 +475,8 @@ impl Writer {
     }
 
     fn undo(&mut self) {
-        self.call("undo", &[]);
-        if self.book.undo().is_ok() {
+        let desk = self.call_by_desk("undo", &[]);
+        if self.book.undo_by(desk).is_ok() {
             // For the first sheet it is the reference sheet again.
             self.sheet = self.before.clone();
             let set = self.scratch.set_dated(&self.sheet);
@@ -419,46 +487,46 @@ impl Writer {
 
     /// Gives the set of codes that would fall.
     fn trial(&mut self, dated: &Dated) -> Result<u32, Refusal> {
-        self.call("trial", &dated.numbers());
-        self.book.trial_dated(dated)
+        let desk = self.call_by_desk("trial", &dated.numbers());
+        self.book.trial_dated_by(desk, dated)
     }
 
     fn put(&mut self, code: u32, record: &[u32]) {
         let mut numbers = vec![code];
         numbers.extend_from_slice(record);
-        self.call("put", &numbers);
-        if self.book.put(code, record).is_ok() {
+        let desk = self.call_by_desk("put", &numbers);
+        if self.book.put_by(desk, code, record).is_ok() {
             self.records[code as usize - 1] = record.try_into().ok();
         }
     }
 
     fn open(&mut self, code: u32) {
-        self.call("open", &[code]);
-        if let Err(NotOpened::OverCap(breach)) = self.book.open(code) {
+        let desk = self.call_by_desk("open", &[code]);
+        if let Err(NotOpened::OverCap(breach)) = self.book.open_by(desk, code) {
             self.breach = Some((code, breach));
         }
     }
 
     fn ask(&mut self, code: u32) {
-        self.call("ask", &[code]);
-        if let Err(NotOpened::OverCap(breach)) = self.book.ask(code) {
+        let desk = self.call_by_desk("ask", &[code]);
+        if let Err(NotOpened::OverCap(breach)) = self.book.ask_by(desk, code) {
             self.breach = Some((code, breach));
         }
     }
 
     fn confirm(&mut self, code: u32) {
-        self.call("confirm", &[code]);
-        let _ = self.book.confirm(code);
+        let desk = self.call_by_desk("confirm", &[code]);
+        let _ = self.book.confirm_by(desk, code);
     }
 
     fn close(&mut self, code: u32) {
-        self.call("close", &[code]);
-        let _ = self.book.close(code);
+        let desk = self.call_by_desk("close", &[code]);
+        let _ = self.book.close_by(desk, code);
     }
 
     fn drop_code(&mut self, code: u32) {
-        self.call("drop", &[code]);
-        if self.book.drop_code(code).is_ok() {
+        let desk = self.call_by_desk("drop", &[code]);
+        if self.book.drop_code_by(desk, code).is_ok() {
             self.records[code as usize - 1] = None;
         }
     }
@@ -515,6 +583,7 @@ impl Writer {
             Turn::Undo => self.undo(),
             Turn::Undos => self.undos(),
             Turn::Marks => self.marks(),
+            Turn::Desks => self.desks(),
             Turn::Benchmark | Turn::Maximum | Turn::Quote => {
                 if self.random.one_in(4) {
                     self.take_odd(turn);
@@ -756,22 +825,33 @@ impl Writer {
             }
         }
         let start = self.random.between(0, 31);
-        (0..32)
-            .map(|i| (start + i) % 32 + 1)
-            .find(|&code| self.book.state(code) == Some(state))
+        self.code_from(start, |book, code| book.state(code) == Some(state))
             .unwrap_or(start + 1)
+    }
+
+    /// The first code after a place for which the test holds, round the book: one that is within
+    /// the regions, if there are such.
+    fn code_from(&self, start: u32, test: impl Fn(&Book, u32) -> bool) -> Option<u32> {
+        let codes = || (0..32).map(|i| (start + i) % 32 + 1);
+        let mut met = codes().filter(|&code| test(&self.book, code));
+        if self.within.is_some() {
+            let mut inside = codes().filter(|&code| test(&self.book, code) && self.is_within(code));
+            return inside.next().or_else(|| met.next());
+        }
+        met.next()
     }
 
     fn used_code(&mut self) -> Option<u32> {
         let start = self.random.between(0, 31);
-        (0..32)
-            .map(|i| (start + i) % 32 + 1)
-            .find(|&code| self.records[code as usize - 1].is_some())
+        self.code_from(start, |book, code| book.state(code) != Some(State::Empty))
     }
 
     /// A code whose place takes a tariff, a draft's if there is one.
     fn code_to_put(&mut self) -> u32 {
-        let code = self.code_in(State::Draft, 1_000);
+        let mut code = self.code_in(State::Draft, 1_000);
+        if !self.is_within(code) {
+            code = self.code_in(State::Empty, 1_000);
+        }
         if self.book.state(code) == Some(State::Open) {
             self.close(code);
         }
@@ -789,6 +869,9 @@ impl Writer {
     }
 
     fn region(&mut self) -> u32 {
+        if let Some(region) = self.region_within() {
+            return region;
+        }
         if self.random.one_in(4) {
             self.random.pick(&[0, 13])
         } else {
@@ -855,4 +938,18 @@ const fn record_of(kind: u32, n: u32, standing: u32, regions: u32, methods: u32)
     record[3] = regions;
     record[4] = methods;
     record
+}
+
+/// A call with single spaces, and no zeros before its numbers.
+fn plain_line(desk: Option<u32>, word: &str, numbers: &[u32]) -> Vec<u8> {
+    let mut line = String::with_capacity(32 + 8 * numbers.len());
+    if let Some(desk) = desk {
+        line.push_str(&format!("desk {desk} "));
+    }
+    line.push_str(word);
+    for number in numbers {
+        line.push(' ');
+        line.push_str(&number.to_string());
+    }
+    line.into_bytes()
 }

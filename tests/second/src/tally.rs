@@ -36,6 +36,12 @@ impl Tally {
         }
     }
 
+    /// Forgets all things but these.
+    pub fn keep(&mut self, wanted: impl Fn(&str) -> bool) {
+        self.times.retain(|what, _| wanted(what));
+        self.different.retain(|what, _| wanted(what));
+    }
+
     pub fn count(&self, what: &str) -> u64 {
         let different = self.different.get(what).map(|keys| keys.len() as u64);
         different.or(self.times.get(what).copied()).unwrap_or(0)

@@ -209,6 +209,11 @@ impl Tariff {
         self.standing[region]
     }
 
+    /// The set of the offered regions.
+    pub fn regions(&self) -> u32 {
+        self.regions
+    }
+
     pub fn offers_region(&self, region: u32) -> bool {
         region < REGIONS as u32 && self.regions >> region & 1 == 1
     }

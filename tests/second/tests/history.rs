@@ -3,12 +3,15 @@
 //! alone, as if an accepted UNDO and the SET that it takes back were not there, and so is whether
 //! there is something to take back. An accepted CONFIRM counts as an accepted OPEN. What a sheet, a
 //! tariff or the two together are worth is asked of fresh books.
+//!
+//! With desks among the calls (M-107) the answer is that to the desk with all fourteen regions, or 17
+//! where that comes before it.
 
 mod common;
 
-use common::{reference, tariff};
+use common::{reference, tariff, ALL};
 use second::random::Random;
-use second::{Book, NotOpened, Refusal, State};
+use second::{Book, DeskRegions, NotOpened, Refusal, State, Tariff};
 
 /// Calls; sheets and tariffs are those of `Stock`, by their numbers there.
 #[derive(Clone, Copy, Debug, PartialEq)]
@@ -41,6 +44,12 @@ struct Made {
 struct Stock {
     sheets: Vec<(u32, u32, u32, Vec<u32>)>,
     tariffs: Vec<Vec<u32>>,
+}
+
+fn in_regions(regions: u32, standing: u32) -> Vec<u32> {
+    let mut record = tariff(1, standing, &[18_000], &[]);
+    record[3] = regions;
+    record.to_vec()
 }
 
 fn stock() -> Stock {
@@ -76,6 +85,10 @@ fn stock() -> Stock {
             tariff(1, 1_000_000, &[18_000], &[]).to_vec(),
             // Refused: 8.
             vec![1, 1],
+            // In region 0, in region 13, and in both. In 13 they fall by sheet 3.
+            in_regions(1, 23_960),
+            in_regions(8_192, 23_000),
+            in_regions(8_193, 23_960),
         ],
     }
 }
@@ -100,35 +113,44 @@ fn cells_or_breach(answer: Result<u32, NotOpened>) -> Answer {
 }
 
 impl Stock {
-    /// The book's own answer.
+    /// The book's own answer to the desk with all fourteen.
     fn make(&self, book: &mut Book, call: Call) -> Answer {
+        self.make_by(book, ALL, call)
+    }
+
+    /// The same to any desk.
+    fn make_by(&self, book: &mut Book, desk: u32, call: Call) -> Answer {
+        let desk = DeskRegions::new(desk);
         let sheet = |number: usize| &self.sheets[number];
         match call {
             Call::Set(number) => {
                 let (year, month, t, fields) = sheet(number);
-                values(book.set(*year, *month, *t, fields), |()| Vec::new())
+                let set = book.set_by(desk, *year, *month, *t, fields);
+                values(set, |()| Vec::new())
             }
             Call::Trial(number) => {
                 let (year, month, t, fields) = sheet(number);
-                values(
-                    book.trial(*year, *month, *t, fields),
-                    |set| vec![set.into()],
-                )
+                let trial = book.trial_by(desk, *year, *month, *t, fields);
+                values(trial, |set| vec![set.into()])
             }
             Call::Put(code, number) => {
-                values(book.put(code, &self.tariffs[number]), |()| Vec::new())
+                let put = book.put_by(desk, code, &self.tariffs[number]);
+                values(put, |()| Vec::new())
             }
-            Call::Open(code) => cells_or_breach(book.open(code)),
-            Call::Ask(code) => cells_or_breach(book.ask(code)),
-            Call::Confirm(code) => values(book.confirm(code), |cells| vec![cells.into()]),
-            Call::Close(code) => values(book.close(code), |()| Vec::new()),
-            Call::Drop(code) => values(book.drop_code(code), |()| Vec::new()),
-            Call::Undo => values(book.undo(), |()| Vec::new()),
-            Call::Benchmark => values(book.benchmark(0, 0, 1, 0), |charge| vec![charge.into()]),
-            Call::Maximum => values(book.maximum(13, 1, 0, 300), |maximum| {
+            Call::Open(code) => cells_or_breach(book.open_by(desk, code)),
+            Call::Ask(code) => cells_or_breach(book.ask_by(desk, code)),
+            Call::Confirm(code) => values(book.confirm_by(desk, code), |cells| vec![cells.into()]),
+            Call::Close(code) => values(book.close_by(desk, code), |()| Vec::new()),
+            Call::Drop(code) => values(book.drop_code_by(desk, code), |()| Vec::new()),
+            Call::Undo => values(book.undo_by(desk), |()| Vec::new()),
+            Call::Benchmark => {
+                let benchmark = book.benchmark_by(desk, 0, 0, 1, 0);
+                values(benchmark, |charge| vec![charge.into()])
+            }
+            Call::Maximum => values(book.maximum_by(desk, 13, 1, 0, 300), |maximum| {
                 vec![maximum.number, maximum.denominator.into()]
             }),
-            Call::Quote(code) => values(book.quote(code, 0, 1, &[100; 3]), |quote| {
+            Call::Quote(code) => values(book.quote_by(desk, code, 0, 1, &[100; 3]), |quote| {
                 vec![quote.charge, quote.maximum]
             }),
         }
@@ -311,6 +333,45 @@ fn answer(stock: &Stock, made: &[Made], call: Call) -> Answer {
     }
 }
 
+/// Whether a call is outside a desk, by the tariffs that are read from the calls.
+fn is_outside(stock: &Stock, made: &[Made], desk: u32, call: Call) -> bool {
+    let not_in = |regions: u32| !(1..=ALL).contains(&desk) || regions & !desk > 0;
+    let of = |tariff: usize| {
+        let tariff = Tariff::new(&stock.tariffs[tariff]);
+        tariff.is_some_and(|tariff| not_in(tariff.regions()))
+    };
+    let old = |code: u32| not_in(0) || tariff_of(made, code).is_some_and(of);
+    match call {
+        Call::Set(_) | Call::Trial(_) | Call::Undo => desk != ALL,
+        Call::Put(code, new) => old(code) || of(new),
+        Call::Benchmark => not_in(1),
+        Call::Maximum => not_in(1 << 13),
+        Call::Open(code)
+        | Call::Ask(code)
+        | Call::Confirm(code)
+        | Call::Close(code)
+        | Call::Drop(code)
+        | Call::Quote(code) => old(code),
+    }
+}
+
+/// The answer to a desk: that to the one with all fourteen if it is one of the refusals that come
+/// before 17, or if the call is not outside the desk.
+fn answer_to(stock: &Stock, made: &[Made], desk: u32, call: Call) -> Answer {
+    let to_all = answer(stock, made, call);
+    let before_17: &[u32] = match call {
+        Call::Set(_) | Call::Trial(_) | Call::Undo => &[],
+        Call::Put(..) => &[6, 7, 8],
+        Call::Benchmark | Call::Maximum => &[13],
+        Call::Quote(_) => &[6, 9, 10, 13],
+        _ => &[6, 9],
+    };
+    if !before_17.contains(&to_all.0) && is_outside(stock, made, desk, call) {
+        return (17, Vec::new());
+    }
+    to_all
+}
+
 /// The places of the book against what is read from the calls.
 fn assert_places(stock: &Stock, made: &[Made], book: &Book, codes: &[u32]) {
     let list = || made.iter().map(|made| made.call).collect::<Vec<_>>();
@@ -334,10 +395,15 @@ fn assert_places(stock: &Stock, made: &[Made], book: &Book, codes: &[u32]) {
 
 /// Makes a call on the book, and compares the answer.
 fn step(stock: &Stock, made: &mut Vec<Made>, book: &mut Book, call: Call) -> Answer {
-    let read = answer(stock, made, call);
-    let given = stock.make(book, call);
+    step_by(stock, made, book, ALL, call)
+}
+
+/// The same by any desk.
+fn step_by(stock: &Stock, made: &mut Vec<Made>, book: &mut Book, desk: u32, call: Call) -> Answer {
+    let read = answer_to(stock, made, desk, call);
+    let given = stock.make_by(book, desk, call);
     let list = || made.iter().map(|made| made.call).collect::<Vec<_>>();
-    assert_eq!(given, read, "{call:?} after {:?}", list());
+    assert_eq!(given, read, "desk {desk}, {call:?} after {:?}", list());
     made.push(Made {
         call,
         accepted: given.0 == 0,
@@ -436,7 +502,7 @@ fn all_lists(
     stock: &Stock,
     made: &mut Vec<Made>,
     book: &Book,
-    calls: &[Call],
+    calls: &[(u32, Call)],
     length: usize,
 ) -> usize {
     assert_places(stock, made, book, &[1]);
@@ -444,9 +510,9 @@ fn all_lists(
         return 1;
     }
     let mut lists = 1;
-    for &call in calls {
+    for &(desk, call) in calls {
         let mut book = book.clone();
-        step(stock, made, &mut book, call);
+        step_by(stock, made, &mut book, desk, call);
         lists += all_lists(stock, made, &book, calls, length - 1);
         made.pop();
     }
@@ -475,6 +541,7 @@ fn all_short_lists_read_from_the_calls_alone() {
         for &call in begin {
             step(&stock, &mut made, &mut book, call);
         }
+        let calls = calls.map(|call| (ALL, call));
         let lists = all_lists(&stock, &mut made, &book, &calls, 5);
         assert_eq!(lists, 111_111);
     }
@@ -502,7 +569,119 @@ fn all_short_lists_of_asks_and_confirms_read_from_the_calls_alone() {
         for &call in begin {
             step(&stock, &mut made, &mut book, call);
         }
+        let calls = calls.map(|call| (ALL, call));
         let lists = all_lists(&stock, &mut made, &book, &calls, 5);
         assert_eq!(lists, 66_430);
+    }
+}
+
+/// Desks that have region 0, region 13, both, all but one or all, and such that are none.
+const DESKS: [u32; 11] = [
+    ALL,
+    ALL,
+    1,
+    8_192,
+    8_193,
+    8_193,
+    16_382,
+    0,
+    16_384,
+    32_767,
+    1 << 31 | 8_193,
+];
+
+#[test]
+fn long_lists_with_desks_read_from_the_calls_alone() {
+    let stock = stock();
+    let mut random = Random::new(107);
+    let (mut outside, mut by_part, mut fell, mut back) = (0, 0, 0, 0);
+    for _ in 0..8_000 {
+        let mut made = Vec::new();
+        let mut book = Book::new();
+        if random.one_in(2) {
+            for call in [
+                Call::Set(0),
+                Call::Put(1, 6),
+                Call::Open(1),
+                Call::Put(2, 8),
+            ] {
+                step(&stock, &mut made, &mut book, call);
+            }
+        }
+        for _ in 0..random.between(1, 40) {
+            let open = |book: &Book| {
+                let open = |code: &u32| book.state(*code) == Some(State::Open);
+                (1..=3).filter(open).count()
+            };
+            let before = open(&book);
+            let mut call = random_call(&mut random, &stock);
+            if let Call::Put(_, tariff) = &mut call {
+                if random.one_in(2) {
+                    *tariff = random.pick(&[6, 7, 8]);
+                }
+            }
+            let desk = match call {
+                Call::Set(_) | Call::Undo if random.one_in(2) => ALL,
+                _ => random.pick(&DESKS),
+            };
+            let answer = step_by(&stock, &mut made, &mut book, desk, call);
+            outside += usize::from(answer.0 == 17);
+            by_part += usize::from(answer.0 == 0 && desk != ALL);
+            match call {
+                Call::Set(_) => fell += before - open(&book),
+                Call::Undo => back += open(&book) - before,
+                _ => {}
+            }
+        }
+        let codes: Vec<u32> = (1..=32).collect();
+        assert_places(&stock, &made, &book, &codes);
+    }
+    let met = [outside, by_part, fell, back];
+    assert!(
+        outside > 30_000 && by_part > 3_000 && fell > 300 && back > 100,
+        "{met:?}"
+    );
+}
+
+/// Two desks with a region each, and the one with all fourteen.
+#[test]
+fn all_short_lists_with_desks_read_from_the_calls_alone() {
+    let stock = stock();
+    let mut calls = Vec::new();
+    for desk in [1, 8_192] {
+        for call in [
+            Call::Open(1),
+            Call::Ask(1),
+            Call::Confirm(1),
+            Call::Close(1),
+            Call::Drop(1),
+        ] {
+            calls.push((desk, call));
+        }
+    }
+    calls.extend([
+        (1, Call::Put(1, 6)),
+        (1, Call::Put(1, 8)),
+        (8_192, Call::Put(1, 7)),
+        (8_193, Call::Put(1, 8)),
+        (8_193, Call::Ask(1)),
+        (ALL, Call::Set(0)),
+        (ALL, Call::Set(3)),
+        (ALL, Call::Undo),
+        (0, Call::Undo),
+    ]);
+    let begins: [&[Call]; 4] = [
+        &[],
+        &[Call::Set(0), Call::Put(1, 6), Call::Ask(1)],
+        &[Call::Set(0), Call::Put(1, 7), Call::Open(1)],
+        &[Call::Set(0), Call::Put(1, 8), Call::Open(1), Call::Set(3)],
+    ];
+    for begin in begins {
+        let (mut made, mut book) = (Vec::new(), Book::new());
+        for &call in begin {
+            step(&stock, &mut made, &mut book, call);
+        }
+        let lists = all_lists(&stock, &mut made, &book, &calls, 4);
+        assert_eq!(lists, 1 + 19 + 361 + 6_859 + 130_321);
     }
 }

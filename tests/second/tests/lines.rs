@@ -160,6 +160,219 @@ fn answers_of_ask_and_confirm() {
     );
 }
 
+/// A tariff of regions 0 and 1 and one of region 1, and desks that have them or not.
+#[test]
+fn answers_of_desks() {
+    let set = reference_line();
+    let zeros = " 0".repeat(21);
+    let low = |regions: u32| format!("1 1 23000 {regions} 3 18000{zeros}\n");
+    let mut input = String::new();
+    // Without a sheet.
+    input.push_str("desk 0 open 1\ndesk 3 open 33\ndesk 3 undo\ndesk 16383 undo\n");
+    input.push_str(&format!("desk 3 put 1 {}", low(3)));
+    input.push_str("desk 3 open 1\ndesk 1 open 1\ndesk 3 quote 1 0 1 0 0 0\n");
+    input.push_str("desk 1 benchmark 0 0 1 0\ndesk 1 benchmark 1 0 1 0\n");
+    input.push_str("desk 1 benchmark 14 0 1 0\n");
+    input.push_str(&format!("desk 3 {set}desk 32767 {set}desk 16383 {set}"));
+    input.push_str(&format!("desk 16382 {}", set.replace("set", "trial")));
+    input.push_str(&set.replace("set", "desk 16383 trial"));
+    // With one.
+    input.push_str("desk 3 ask 1\ndesk 1 confirm 1\n  desk   0003   confirm   1 \r\n");
+    input.push_str("desk 7 open 1\ndesk 1 close 1\ndesk 3 quote 1 1 1 0 0 0\n");
+    input.push_str("desk 2 quote 1 1 1 0 0 0\ndesk 2 quote 1 2 1 0 0 0\n");
+    input.push_str(&format!("desk 4294967295 put 1 {}", low(3)));
+    input.push_str("desk 16383 close 1\n");
+    input.push_str(&format!("desk 2 put 1 {}", low(2)));
+    input.push_str(&format!("desk 3 put 1 {}", low(7)));
+    input.push_str(&format!("desk 3 put 1 {}", low(2)));
+    input.push_str(&format!("desk 2 put 1 {}", low(2)));
+    input.push_str("desk 2 open 1\ndesk 1 drop 1\ndesk 2 drop 1\nclose 1\n");
+    input.push_str("desk 2 drop 1\ndesk 2 drop 1\ndesk 0 drop 1\n");
+    input.push_str("desk 1 maximum 0 0 1 300\ndesk 1 maximum 1 0 1 300\n");
+    input.push_str("desk 0 maximum 0 0 1 120001\ndesk 0 maximum 0 0 1 120000");
+    assert_eq!(
+        run(input.as_bytes()),
+        "refused 9\nrefused 6\nrefused 17\nrefused 15\n\
+         ok\nrefused 10\nrefused 17\nrefused 10\n\
+         refused 10\nrefused 17\nrefused 13\n\
+         refused 17\nrefused 17\nok\nrefused 17\nok 0\n\
+         ok 4\nrefused 17\nok 4\n\
+         refused 7\nrefused 17\nok 76176000000000 79357500000000\n\
+         refused 17\nrefused 13\nrefused 7\nok\n\
+         refused 17\nrefused 17\nok\nok\n\
+         ok 2\nrefused 17\nrefused 7\nok\n\
+         ok\nrefused 9\nrefused 9\n\
+         ok 279704700000 36000\nrefused 17\n\
+         refused 13\nrefused 17\n"
+    );
+}
+
+/// The errors of a line that begins with `desk`, in their order: the desk, the call, a word, the count.
+#[test]
+fn lines_of_desks_that_are_no_calls() {
+    let takes = "desk takes a number and a call";
+    let word = |place: usize| format!("word {place} is not a number from 0 to 4294967295");
+    for (line, expected) in [
+        // No number.
+        ("desk", takes),
+        ("   desk  ", takes),
+        ("desk x", takes),
+        ("desk x open 1", takes),
+        ("desk open 1", takes),
+        ("desk open", takes),
+        ("desk undo", takes),
+        ("desk -1 open 1", takes),
+        ("desk +3 open 1", takes),
+        ("desk 3.0 open 1", takes),
+        ("desk 0x3 open 1", takes),
+        ("desk 3,5 open 1", takes),
+        ("desk # open 1", takes),
+        ("desk #3 open 1", takes),
+        ("desk 4294967296 open 1", takes),
+        ("desk 04294967296 open 1", takes),
+        ("desk 99999999999999999999999999999999 open 1", takes),
+        ("desk 3\r open 1", takes),
+        ("desk 3\topen 1", takes),
+        ("desk desk 3 open 1", takes),
+        // No call.
+        ("desk 3", takes),
+        ("desk 0", takes),
+        ("desk 4294967295   ", takes),
+        // Before an unknown call, a word that is no number and a count.
+        ("desk x opens 1", takes),
+        ("desk x #", takes),
+        ("desk x open x", takes),
+        ("desk x open 1 2", takes),
+        // An unknown call.
+        ("desk 3 opens 1", "unknown call"),
+        ("desk 3 OPEN 1", "unknown call"),
+        ("desk 3 open\t1", "unknown call"),
+        ("desk 3 3", "unknown call"),
+        ("desk 3 3 open 1", "unknown call"),
+        ("desk 3 desk", "unknown call"),
+        ("desk 3 desk 3", "unknown call"),
+        ("desk 3 desk 3 open 1", "unknown call"),
+        ("desk 3 desk x open 1", "unknown call"),
+        ("desk 3 #", "unknown call"),
+        ("desk 3 # open 1", "unknown call"),
+        ("desk 3 #open 1", "unknown call"),
+        ("desk 16383 #open 1", "unknown call"),
+        ("desk 3 opens x", "unknown call"),
+        ("desk 3 #open x", "unknown call"),
+        ("desk 3 -1 open", "unknown call"),
+        ("DESK 3 open 1", "unknown call"),
+        ("Desk 3 open 1", "unknown call"),
+        ("desks 3 open 1", "unknown call"),
+        ("des 3 open 1", "unknown call"),
+        ("desk3 open 1", "unknown call"),
+        ("desk\t3 open 1", "unknown call"),
+        ("desk# 3 open 1", "unknown call"),
+        // A word, counted from the line's first.
+        ("desk 3 open x", &word(4)),
+        ("desk 3 open 1 x", &word(5)),
+        ("desk 3   open   1   #", &word(5)),
+        ("desk 3 undo x", &word(4)),
+        ("desk 3 put 1 1.5 x", &word(5)),
+        ("desk 0 trial 2023 10 3 0 4294967296 -1", &word(8)),
+        ("desk 3 open 4294967296", &word(4)),
+        ("desk 3 open desk", &word(4)),
+        ("desk 32767 quote 1 2 x", &word(6)),
+        // Too many besides.
+        ("desk 3 open 1 2 x", &word(6)),
+        // A count, without the desk's words.
+        ("desk 3 open", "open takes 1 number"),
+        ("desk 3 open 1 2", "open takes 1 number"),
+        ("desk 3 ask", "ask takes 1 number"),
+        ("desk 3 confirm 1 2", "confirm takes 1 number"),
+        ("desk 3 close", "close takes 1 number"),
+        ("desk 3 drop 1 2 3", "drop takes 1 number"),
+        ("desk 3 set", "set takes at least 3 numbers"),
+        ("desk 3 set 1 2", "set takes at least 3 numbers"),
+        ("desk 16383 set 1 2", "set takes at least 3 numbers"),
+        ("desk 3 trial 2023 10", "trial takes at least 3 numbers"),
+        ("desk 3 undo 0", "undo takes no number"),
+        ("desk 0 undo 1", "undo takes no number"),
+        ("desk 3 put", "put takes at least 1 number"),
+        ("desk 3 benchmark 0 0 0", "benchmark takes 4 numbers"),
+        ("desk 3 maximum 0 0 0 0 0", "maximum takes 4 numbers"),
+        ("desk 3 quote 1 2", "quote takes at least 3 numbers"),
+    ] {
+        for end in ["", "\n", "\r\n", "  \n"] {
+            let expected = format!("error line 1: {expected}\n");
+            let answer = run(format!("{line}{end}").as_bytes());
+            assert_eq!(answer, expected, "{line:?}{end:?}");
+        }
+    }
+    // A comment is a line whose first word begins with #.
+    assert_eq!(
+        run(b"# desk\n   #desk 3 open 1\ndesk"),
+        format!("error line 3: {takes}\n")
+    );
+}
+
+#[test]
+fn desks_at_their_limits() {
+    for (desk, answer) in [
+        ("0", "refused 17\n"),
+        ("16382", "refused 17\n"),
+        ("16383", "refused 15\n"),
+        ("0016383", "refused 15\n"),
+        ("16384", "refused 17\n"),
+        ("32767", "refused 17\n"),
+        ("81919", "refused 17\n"),
+        ("4294967295", "refused 17\n"),
+    ] {
+        assert_eq!(
+            run(format!("desk {desk} undo").as_bytes()),
+            answer,
+            "{desk}"
+        );
+    }
+    let zeros = format!("desk {}16383 undo", "0".repeat(16_000));
+    assert_eq!(run(zeros.as_bytes()), "refused 15\n");
+    // The desk's words count in the length of a line.
+    let takes = "error line 1: desk takes a number and a call\n";
+    for (length, answers) in [
+        (16_384, ["refused 6\n", takes]),
+        (16_385, ["error line 1: longer than 16384 bytes\n"; 2]),
+    ] {
+        for (start, answer) in ["desk 3 open 33", "desk 3"].into_iter().zip(answers) {
+            assert_eq!(run(format!("{start:length$}").as_bytes()), answer);
+        }
+    }
+}
+
+/// The same script with `desk 16383` before every call.
+#[test]
+fn desk_16383_changes_no_answer() {
+    for seed in 1..4 {
+        let plain: Vec<u8> = Writer::without_desks(seed, 5_000).flatten().collect();
+        let names_a_desk = |line: &[u8]| {
+            let mut words = line.split(|&byte| byte == b' ');
+            words.find(|word| !word.is_empty()) == Some(b"desk")
+        };
+        assert!(!plain.split(|&byte| byte == b'\n').any(names_a_desk));
+        let (mut one, mut other) = (Desk::new(), Desk::new());
+        let mut calls = 0;
+        for line in plain.split(|&byte| byte == b'\n') {
+            let mut answer = Vec::new();
+            one.line(line, &mut answer);
+            let mut named = line.to_vec();
+            let is_call = answer.starts_with(b"ok") || answer.starts_with(b"refused");
+            // Some lines are as long as a line can be.
+            if is_call && line.len() < 16_000 {
+                named = [b"desk 16383 ", line].concat();
+                calls += 1;
+            }
+            let mut of_desk = Vec::new();
+            other.line(&named, &mut of_desk);
+            assert_eq!(of_desk, answer, "{}", String::from_utf8_lossy(line));
+            assert_eq!(one.book(), other.book());
+        }
+        assert!(calls >= 5_000);
+    }
+}
+
 /// SMNCC is word 41, in two's complement: 4,294,467,296 is -500,000.
 #[test]
 fn a_saving_is_written_without_a_sign() {
@@ -409,6 +622,26 @@ fn scripts_are_the_same_from_the_same_seed() {
     let mut writer = Writer::new(9, 500);
     writer.by_ref().for_each(drop);
     assert_eq!(writer.calls(), 500);
+}
+
+/// FNV-1a.
+fn checksum(bytes: &[u8]) -> u64 {
+    bytes.iter().fold(0xcbf2_9ce4_8422_2325, |sum: u64, &byte| {
+        (sum ^ u64::from(byte)).wrapping_mul(0x0000_0100_0000_01b3)
+    })
+}
+
+/// The lines that are timed, and the answers to them, are those of before there were desks.
+#[test]
+fn speed_scripts_are_as_they_were() {
+    for (seed, lines, script, answers) in [
+        (1, 5_000, 0x0e44_bcea_4a35_1207, 0x3666_022b_6b73_dfe9),
+        (7, 3_000, 0x55ca_df3e_c2c9_f842, 0x71f1_8883_9f0e_f48a),
+    ] {
+        let text = speed_script(seed, lines);
+        assert_eq!(checksum(&text), script);
+        assert_eq!(checksum(run(&text).as_bytes()), answers);
+    }
 }
 
 #[test]

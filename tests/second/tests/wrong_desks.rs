@@ -26,6 +26,14 @@ fn short_lists(program: &Program) -> Result<(), String> {
     every_list(program).map(drop)
 }
 
+fn short_lists_with_desks(program: &Program) -> Result<(), String> {
+    every_list_with_desks(program).map(drop)
+}
+
+fn first_pairs(program: &Program) -> Result<(), String> {
+    pairs_of_books(program, 1, PAIRS).map(drop)
+}
+
 fn first_seed(program: &Program) -> Result<(), String> {
     random_calls(program, 1).map(drop)
 }
@@ -48,8 +56,11 @@ fn right_desks_pass() {
         conversations(&program, 1, 12).unwrap();
         fuzz_cases(&program, FUZZ_SEED, 200).unwrap();
         random_calls(&program, 1).unwrap();
+        pairs_of_books(&program, 1, 20).unwrap();
+        calls_without_desks(&program, 1, 5_000).unwrap();
     }
     every_list(&Program::new(env!("CARGO_BIN_EXE_desk"))).unwrap();
+    every_list_with_desks(&Program::new(env!("CARGO_BIN_EXE_desk"))).unwrap();
 }
 
 /// Each fault is found, and the report names the line and says this.
@@ -504,9 +515,322 @@ fn short_lists_find_what_is_wrong_with_ask_and_confirm() {
     );
 }
 
+/// The refusals of each call, in their order.
+const ORDERS: [(&str, &[u32]); 12] = [
+    ("set", &[17, 1, 2, 3, 4, 14, 5]),
+    ("trial", &[17, 1, 2, 3, 4, 14, 5]),
+    ("undo", &[17, 15]),
+    ("put", &[6, 7, 8, 17]),
+    ("open", &[6, 9, 17, 7, 10, 11]),
+    ("ask", &[6, 9, 17, 7, 10, 11]),
+    ("confirm", &[6, 9, 17, 7, 16]),
+    ("close", &[6, 9, 17, 12]),
+    ("drop", &[6, 9, 17, 7]),
+    ("benchmark", &[13, 17, 10]),
+    ("maximum", &[13, 17, 10]),
+    ("quote", &[6, 9, 10, 13, 17]),
+];
+
+/// 17 before one of the refusals that come before it, or after one of those that come after it.
+#[test]
+fn random_calls_find_17_in_a_wrong_place() {
+    for (call, order) in ORDERS {
+        let right = order.iter().position(|&number| number == 17).unwrap();
+        for (place, number) in order
+            .iter()
+            .enumerate()
+            .filter(|(place, _)| *place != right)
+        {
+            let [fault, says] = if place < right {
+                let says = format!("expected: refused {number}\n  answered: refused 17");
+                [format!("desks: {call}, 17 before {number}"), says]
+            } else {
+                let says = format!("expected: refused 17\n  answered: refused {number}");
+                [format!("desks: {call}, 17 after {number}"), says]
+            };
+            all_found(&[(&fault, &says)], first_seed_answered);
+        }
+        for change in ["17 first", "17 last"] {
+            let is_so = match change {
+                "17 first" => right == 0,
+                _ => right + 1 == order.len(),
+            };
+            if !is_so {
+                let fault = format!("desks: {call}, {change}");
+                all_found(&[(&fault, "refused 17")], first_seed_answered);
+            }
+        }
+        let fault = format!("desks: {call}, no 17");
+        all_found(&[(&fault, "expected: refused 17")], first_seed_answered);
+    }
+    // By this table, and not by the book, 17 comes where it should.
+    first_seed(&wrong("desks: nothing is wrong")).unwrap();
+}
+
+#[test]
+fn random_calls_find_17_to_every_part_desk() {
+    for call in [
+        "put",
+        "open",
+        "ask",
+        "confirm",
+        "close",
+        "drop",
+        "benchmark",
+        "maximum",
+        "quote",
+    ] {
+        let fault = format!("desks: {call}, 17 to every part desk");
+        all_found(&[(&fault, "answered: refused 17")], first_seed_answered);
+    }
+}
+
+/// What is wrong with the regions of a desk, and what the answers say.
+const OF_REGIONS: [(&str, &str); 36] = [
+    ("the last desk stays", "answered: refused 17"),
+    ("without a desk there is none", "answered: refused 17"),
+    ("0 is all fourteen", "expected: refused 17"),
+    ("0 may use every code", "expected: refused 17"),
+    ("0 may query", "expected: refused 17"),
+    ("16,384 is all fourteen", "expected: refused 17"),
+    ("32,767 is all fourteen", "expected: refused 17"),
+    ("4,294,967,295 is all fourteen", "expected: refused 17"),
+    ("a higher bit is passed over", "expected: refused 17"),
+    (
+        "a higher bit is passed over on codes",
+        "expected: refused 17",
+    ),
+    (
+        "a higher bit is passed over in questions",
+        "expected: refused 17",
+    ),
+    ("a desk of 16 bits", "expected: refused 17"),
+    ("a desk of 31 bits", "expected: refused 17"),
+    ("part desks are never allowed", "answered: refused 17"),
+    (
+        "all but one may use set, trial and undo",
+        "expected: refused 17",
+    ),
+    ("all but one may use set", "expected: refused 17"),
+    (
+        "every part desk may use set, trial and undo",
+        "expected: refused 17",
+    ),
+    ("the bits are one too high", "refused 17"),
+    ("the bits are one too low", "refused 17"),
+    ("the bits are the other way round", "refused 17"),
+    ("a part desk may query every region", "expected: refused 17"),
+    ("the region beside it is asked for", "refused 17"),
+    ("overlap is enough", "expected: refused 17"),
+    ("the first region decides", "expected: refused 17"),
+    ("the last region decides", "expected: refused 17"),
+    (
+        "the desk inside the tariff is enough",
+        "expected: refused 17",
+    ),
+    (
+        "only a tariff in all its regions is inside",
+        "answered: refused 17",
+    ),
+    (
+        "as many regions as the tariff has are enough",
+        "expected: refused 17",
+    ),
+    ("put looks at the new tariff alone", "expected: refused 17"),
+    ("put looks at the old draft alone", "expected: refused 17"),
+    (
+        "put looks at the new tariff where there is no old draft",
+        "expected: refused 17",
+    ),
+    ("put is content with one of the two", "expected: refused 17"),
+    (
+        "put looks at both as one set that overlaps",
+        "expected: refused 17",
+    ),
+    ("quote looks at its region alone", "expected: refused 17"),
+    ("no cells to a part desk", "expected: ok"),
+    ("no figures with 11 to a part desk", "expected: refused 11"),
+];
+
+#[test]
+fn random_calls_find_what_is_wrong_with_the_regions_of_a_desk() {
+    for (fault, says) in OF_REGIONS {
+        let fault = format!("desks: {fault}");
+        all_found(&[(&fault, says)], first_seed_answered);
+    }
+    for region in 0..14 {
+        let fault = format!("desks: region {region} is not looked at");
+        all_found(&[(&fault, "expected: refused 17")], first_seed_answered);
+    }
+    let fault = "desks: 17 where 9 is meant, for a part desk";
+    all_found(&[(fault, "expected: refused 9")], first_seed_answered);
+}
+
+/// What one desk's calls are to another's.
+const OF_SEVERAL_DESKS: [(&str, &str); 8] = [
+    (
+        "the chance survives a part desk's calls",
+        "expected: refused 15\n  answered: ok",
+    ),
+    (
+        "a call refused 17 ends the chance",
+        "expected: ok\n  answered: refused 15",
+    ),
+    (
+        "a call refused 17 makes a chance",
+        "expected: refused 15\n  answered: ok",
+    ),
+    (
+        "a mark is there for the desk that asked alone",
+        "answered: refused 16",
+    ),
+    ("a part desk marks nothing", "answered: refused 16"),
+    ("a call refused 17 clears the mark", "answered: refused 16"),
+    ("a part desk's put keeps the mark", LEFT),
+    ("what a part desk opened stays open at a set", "expected: "),
+];
+
+#[test]
+fn random_calls_find_what_is_wrong_between_desks() {
+    for (fault, says) in OF_SEVERAL_DESKS {
+        let fault = format!("desks: {fault}");
+        all_found(&[(&fault, says)], first_seed_answered);
+    }
+    let fault = "desks: the chance ends by a part desk's questions";
+    all_found(&[(fault, "answered: refused 15")], first_seed_answered);
+}
+
+/// The difference may be that there is no answer, and then that of the next line.
+#[test]
+fn random_calls_find_what_is_wrong_with_a_line_of_a_desk() {
+    let takes = ": desk takes a number and a call";
+    let word = "is not a number from 0 to 4294967295";
+    for (fault, says) in [
+        ("DESK is desk", ": unknown call\n"),
+        ("words are counted from the call", word),
+        ("a second desk is taken", ": unknown call\n"),
+        ("a comment behind a desk is passed over", ": unknown call\n"),
+        ("a desk without a call is passed over", takes),
+        ("a desk without a call is an unknown call", takes),
+        ("a desk without a number is an unknown call", takes),
+        ("the number of a desk is word 2", takes),
+        ("an unknown call comes before its desk", takes),
+        (
+            "its numbers come before an unknown call",
+            ": unknown call\n",
+        ),
+        ("a count comes before a word that is no number", word),
+        (
+            "the desk's number is one of the call's",
+            " takes 1 number\n",
+        ),
+        ("2^32 is desk 0", takes),
+        ("zeros before a desk are no number", takes),
+        ("the desk's words are passed over", "expected: "),
+    ] {
+        let fault = format!("desks: {fault}");
+        all_found(&[(&fault, says)], first_seed);
+    }
+}
+
+#[test]
+fn short_lists_find_what_is_wrong_with_desks() {
+    for (call, refusals) in [
+        ("open", &["17 before 9", "17 after 7", "17 after 11"][..]),
+        ("ask", &["17 before 9", "17 after 7", "17 after 11"]),
+        ("confirm", &["17 after 7", "17 after 16"]),
+        ("close", &["17 after 12"]),
+        ("drop", &["17 after 7"]),
+        ("put", &["17 before 7"]),
+        ("quote", &["17 before 13"]),
+        ("undo", &["17 after 15"]),
+    ] {
+        for change in refusals.iter().chain(&["no 17"]) {
+            // At an empty place nothing is outside a desk that is one.
+            if *change == "17 before 9" {
+                continue;
+            }
+            let fault = format!("desks: {call}, {change}");
+            all_found(&[(&fault, "refused 17")], short_lists_with_desks);
+        }
+    }
+    for (fault, says) in OF_SEVERAL_DESKS {
+        let fault = format!("desks: {fault}");
+        all_found(&[(&fault, says)], short_lists_with_desks);
+    }
+    for fault in [
+        "overlap is enough",
+        "put looks at the new tariff alone",
+        "put looks at the old draft alone",
+        "put is content with one of the two",
+        "the first region decides",
+        "the last region decides",
+        "the desk inside the tariff is enough",
+    ] {
+        let fault = format!("desks: {fault}");
+        all_found(&[(&fault, "expected: refused 17")], short_lists_with_desks);
+    }
+    let right = wrong("desks: nothing is wrong");
+    short_lists_with_desks(&right).unwrap();
+}
+
+/// The two books of the program itself give a desk what it may not see.
+#[test]
+fn pairs_of_books_find_what_a_desk_may_not_see() {
+    let says = "expected, as from the other book: ";
+    for fault in [
+        "open, no 17",
+        "open, 17 after 11",
+        "ask, no 17",
+        "ask, 17 after 11",
+        "benchmark, no 17",
+        "maximum, no 17",
+        "quote, no 17",
+        "a part desk may query every region",
+        "the region beside it is asked for",
+        "overlap is enough",
+        "the first region decides",
+    ] {
+        let fault = format!("desks: {fault}");
+        all_found(&[(&fault, says)], fixed_pairs_of_books);
+    }
+    // Wrong, but alike in both books.
+    let says = "\n  expected: ";
+    for fault in [
+        "open, 17 after 7",
+        "close, 17 after 12",
+        "put looks at the new tariff alone",
+        "quote looks at its region alone",
+        "part desks are never allowed",
+    ] {
+        let fault = format!("desks: {fault}");
+        all_found(&[(&fault, says)], first_pairs);
+    }
+    first_pairs(&wrong("desks: nothing is wrong")).unwrap();
+}
+
+fn fixed_pairs_of_books(program: &Program) -> Result<(), String> {
+    fixed_pairs(program).map(drop)
+}
+
+/// Found where the same script without desks is answered rightly.
+#[test]
+fn a_script_with_desk_16383_before_each_call_finds_what_is_wrong_with_desks() {
+    let part: Part = |program| calls_without_desks(program, 10, CALLS / 10).map(drop);
+    let says = "each call by desk 16383";
+    all_found(
+        &[
+            ("desks: words are counted from the call", says),
+            ("desks: 16,383 is not all fourteen", says),
+            ("desks are not known", says),
+        ],
+        part,
+    );
+}
+
 #[test]
 fn the_comparison_ends_whatever_the_program_does() {
-    let parts: [Part; 3] = [fixed_conversations, fixed_fuzz, first_seed];
+    let parts: [Part; 4] = [fixed_conversations, fixed_fuzz, first_seed, first_pairs];
     for fault in [
         "it leaves at once",
         "it reads nothing",

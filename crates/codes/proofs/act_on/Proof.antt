@@ -4,7 +4,7 @@ use mathlib.Core.Path.{_≡_, refl, sym, _∙_}
 use Prim.Native.Nat.{suc}
 use Rattle.book.specs.declared.Kept.{Kept}
 use Rattle.book.specs.declared.Settled.{Settled}
-use Rattle.book.specs.Calls.{call}
+use Rattle.book.specs.Calls.{by}
 use Rattle.book.specs.Book.{setPlace, withPlaces}
 use Rattle.book.specs.Promises.{Does}
 use Rattle.book.specs.Settling.{keptAfter}
@@ -51,10 +51,10 @@ module _ (c : tie.After-accepted-by) where
   came = c .before .before .before .settle .result
 
   did : (k : Kept) → k ≡ keptAfter (came .reply) (at-start .args .b .kept)
-      → Does (at-start .args .b) (call (actOn (at-start .args .act) (at-start .args .code))) (record { reply = came .reply; months = came .months; book = withPlaces (at-start .args .b) (setPlace (at-start .args .b .places) (suc (c .before .before .before .before .before .before .index-of .result)) (came .place)) k })
+      → Does (at-start .args .b) (by (at-start .args .desk) (actOn (at-start .args .act) (at-start .args .code))) (record { reply = came .reply; months = came .months; book = withPlaces (at-start .args .b) (setPlace (at-start .args .b .places) (suc (c .before .before .before .before .before .before .index-of .result)) (came .place)) k })
   did k e =
       stored-with (at-start .args .b) _ _ came k e
-      (act-does (at-start .args .b) _ _ _ (c .before .before .before .before .before .before .index-of .ensures .1) refl (at-start .args .act) _ (at-start .pre) (c .before .before .before .settle .ensures .0))
+      (act-does (at-start .args .desk) (at-start .args .b) _ _ _ (c .before .before .before .before .before .before .index-of .ensures .1) refl (at-start .args .act) _ (at-start .pre) (c .before .before .before .settle .ensures .0))
 
 returns : tie.Need-returns
 returns c =

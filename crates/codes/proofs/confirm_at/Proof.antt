@@ -4,22 +4,21 @@ use mathlib.Core.Path.{_≡_, refl, sym, _∙_, ap, ap₂}
 use Rattle.refusal.specs.Checks.{first}
 use Rattle.verdict.specs.Cells.{cellCount}
 use Rattle.book.specs.Calls.{cells}
-use Rattle.book.specs.Settling.{heldCheck}
 use Rattle.laws.proofs.Lists.{noughts}
 use Rattle.codes.specs.declared.CodeAct.the-variants as act
-use Rattle.codes.specs.Codes.{restOn}
-use Rattle.codes.proofs.Answers.{refused-by, passed-by}
+use Rattle.codes.specs.Codes.{usableCheck, restOn}
+use Rattle.book.proofs.OnePlace.{refused-by, passed-by}
 use borrow.Author.Needs.{needs}
 use Rattle.codes.proofs.confirm_at.Statement.{statement}
 use Rattle.codes.proofs.confirm_at.Tie as tie
 
 -- the checks, one after the other
-checks : (c : tie.After-held-check) → let a = c .before .before .before .before .args in
-    c .held-check .result ≡ heldCheck (a .code) (a .p .state) (restOn act.Confirm (a .p .state) (a .loaded))
+checks : (c : tie.After-usable-check) → let a = c .before .before .before .before .args in
+    c .usable-check .result ≡ usableCheck (a .desk) (a .code) (a .p) (restOn act.Confirm (a .p .state) (a .loaded))
 checks c =
     let a = c .before .before .before .before .args in
-    c .held-check .ensures
-    ∙ ap (heldCheck (a .code) (a .p .state)) (c .before .first .ensures ∙ ap₂ first (c .before .before .before .open-check .ensures) (c .before .before .mark-check .ensures))
+    c .usable-check .ensures
+    ∙ ap (usableCheck (a .desk) (a .code) (a .p)) (c .before .first .ensures ∙ ap₂ first (c .before .before .before .open-check .ensures) (c .before .before .mark-check .ensures))
 
 open-check-requires : tie.Need-open-check-requires
 open-check-requires c κs = search needs
@@ -30,8 +29,8 @@ mark-check-requires c κs = search needs
 first-requires : tie.Need-first-requires
 first-requires c κs = search needs
 
-held-check-requires : tie.Need-held-check-requires
-held-check-requires c κs = search needs
+usable-check-requires : tie.Need-usable-check-requires
+usable-check-requires c κs = search needs
 
 enum-told : tie.Need-enum-told
 enum-told c = search needs
@@ -69,7 +68,7 @@ confirm-at-spec =
     open-check-requires
     mark-check-requires
     first-requires
-    held-check-requires
+    usable-check-requires
     enum-told
     enum-told-2
     settled-by-requires

@@ -1,8 +1,8 @@
 -- `codes::drop_at` meets its contract: its checks settle the place.
 -- Assumes nothing.
 use mathlib.Core.Path.{_∙_, ap}
-use Rattle.book.specs.Settling.{heldCheck}
-use Rattle.codes.proofs.Answers.{by-checks}
+use Rattle.book.proofs.OnePlace.{by-checks}
+use Rattle.codes.specs.Codes.{usableCheck}
 use borrow.Author.Needs.{needs}
 use Rattle.codes.proofs.drop_at.Statement.{statement}
 use Rattle.codes.proofs.drop_at.Tie as tie
@@ -10,8 +10,8 @@ use Rattle.codes.proofs.drop_at.Tie as tie
 open-check-requires : tie.Need-open-check-requires
 open-check-requires c κs = search needs
 
-held-check-requires : tie.Need-held-check-requires
-held-check-requires c κs = search needs
+usable-check-requires : tie.Need-usable-check-requires
+usable-check-requires c κs = search needs
 
 empty-place-requires : tie.Need-empty-place-requires
 empty-place-requires c κs = search needs
@@ -24,14 +24,14 @@ returns c =
     let h = c .before .before in
     let a = h .before .before .args in
     by-checks _ _ _ _ _ _ (c .settled-by .ensures)
-    (h .held-check .ensures ∙ ap (heldCheck (a .code) (a .p .state)) (h .before .open-check .ensures)) (c .before .empty-place .ensures)
+    (h .usable-check .ensures ∙ ap (usableCheck (a .desk) (a .code) (a .p)) (h .before .open-check .ensures)) (c .before .empty-place .ensures)
 
 pub drop-at-spec : {M : Type 1} → statement M
 drop-at-spec =
     tie.close
     (tie.spec
     open-check-requires
-    held-check-requires
+    usable-check-requires
     empty-place-requires
     settled-by-requires
     returns)

@@ -10,21 +10,21 @@ use Rattle.verdict.specs.Cells.{verdict}
 use Rattle.verdict.specs.Rulings.{verdictOf}
 use Rattle.book.specs.Checks.{verdictAnswer}
 use Rattle.book.specs.Book.{tariffIn}
-use Rattle.book.specs.Settling.{heldCheck}
 use Rattle.laws.proofs.Lists.{noughts}
-use Rattle.codes.specs.Codes.{openRest}
-use Rattle.codes.proofs.Answers.{refused-by, passed-by, open-passed}
+use Rattle.codes.specs.Codes.{usableCheck, openRest}
+use Rattle.book.proofs.OnePlace.{refused-by, passed-by}
+use Rattle.codes.proofs.Answers.{open-passed}
 use borrow.Author.Needs.{needs}
 use Rattle.codes.proofs.open_as.Statement.{statement}
 use Rattle.codes.proofs.open_as.Tie as tie
 
 -- the checks, one after the other
-checks : (c : tie.After-held-check) → let a = c .before .before .before .before .args in
-    c .held-check .result ≡ heldCheck (a .code) (a .p .state) (openRest (a .p .state) (a .loaded))
+checks : (c : tie.After-usable-check) → let a = c .before .before .before .before .args in
+    c .usable-check .result ≡ usableCheck (a .desk) (a .code) (a .p) (openRest (a .p .state) (a .loaded))
 checks c =
     let a = c .before .before .before .before .args in
-    c .held-check .ensures
-    ∙ ap (heldCheck (a .code) (a .p .state)) (c .before .first .ensures ∙ ap₂ first (c .before .before .before .open-check .ensures) (c .before .before .sheet-check .ensures))
+    c .usable-check .ensures
+    ∙ ap (usableCheck (a .desk) (a .code) (a .p)) (c .before .first .ensures ∙ ap₂ first (c .before .before .before .open-check .ensures) (c .before .before .sheet-check .ensures))
 
 -- past them
 passed : (c : tie.After-enum-told) → let st = c .before .before .before .before .before .before in
@@ -32,7 +32,7 @@ passed : (c : tie.After-enum-told) → let st = c .before .before .before .befor
 passed c =
     let h = c .before .before in
     let st = h .before .before .before .before in
-    open-passed (st .args .code) (st .args .p) (st .args .loaded) (st .pre .1) (sym (checks h) ∙ c .enum-told .given .1)
+    open-passed (st .args .desk) (st .args .code) (st .args .p) (st .args .loaded) (st .pre .1) (sym (checks h) ∙ c .enum-told .given .1)
 
 -- the walk's ruling is the verdict on the place's tariff
 ruled : (c : tie.After-verdict-of) → let a = c .before .before .before .before .before .before .before .before .before .args in
@@ -50,8 +50,8 @@ sheet-check-requires c κs = search needs
 first-requires : tie.Need-first-requires
 first-requires c κs = search needs
 
-held-check-requires : tie.Need-held-check-requires
-held-check-requires c κs = search needs
+usable-check-requires : tie.Need-usable-check-requires
+usable-check-requires c κs = search needs
 
 enum-told : tie.Need-enum-told
 enum-told c = search needs
@@ -110,7 +110,7 @@ open-as-spec =
     open-check-requires
     sheet-check-requires
     first-requires
-    held-check-requires
+    usable-check-requires
     enum-told
     enum-told-2
     settled-by-requires

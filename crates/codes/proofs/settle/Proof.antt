@@ -45,32 +45,32 @@ confirm-at-requires c κs = search needs
 returns : tie.Need-returns
 returns c =
     let a = c .before .before .before .args in
-    let s = subst (λ (b : CodeAct). SettlesOn b (a .code) (a .p) (a .loaded) (a .figures) (c .open-as .result)) (sym (c .before .enum-told .given .1)) (c .open-as .ensures) in
-    (s, λ b i h. acts h (a .act) (c .open-as .result) s)
+    let s = subst (λ (b : CodeAct). SettlesOn b (a .desk) (a .code) (a .p) (a .loaded) (a .figures) (c .open-as .result)) (sym (c .before .enum-told .given .1)) (c .open-as .ensures) in
+    (s, λ b i h. acts h (a .desk) (a .act) (c .open-as .result) s)
 
 returns-2 : tie.Need-returns-2
 returns-2 c =
     let a = c .before .before .before .args in
-    let s = subst (λ (b : CodeAct). SettlesOn b (a .code) (a .p) (a .loaded) (a .figures) (c .close-at .result)) (sym (c .before .enum-told2 .given .1)) (c .close-at .ensures) in
-    (s, λ b i h. acts h (a .act) (c .close-at .result) s)
+    let s = subst (λ (b : CodeAct). SettlesOn b (a .desk) (a .code) (a .p) (a .loaded) (a .figures) (c .close-at .result)) (sym (c .before .enum-told2 .given .1)) (c .close-at .ensures) in
+    (s, λ b i h. acts h (a .desk) (a .act) (c .close-at .result) s)
 
 returns-3 : tie.Need-returns-3
 returns-3 c =
     let a = c .before .before .before .args in
-    let s = subst (λ (b : CodeAct). SettlesOn b (a .code) (a .p) (a .loaded) (a .figures) (c .drop-at .result)) (sym (c .before .enum-told3 .given .1)) (c .drop-at .ensures) in
-    (s, λ b i h. acts h (a .act) (c .drop-at .result) s)
+    let s = subst (λ (b : CodeAct). SettlesOn b (a .desk) (a .code) (a .p) (a .loaded) (a .figures) (c .drop-at .result)) (sym (c .before .enum-told3 .given .1)) (c .drop-at .ensures) in
+    (s, λ b i h. acts h (a .desk) (a .act) (c .drop-at .result) s)
 
 returns-4 : tie.Need-returns-4
 returns-4 c =
     let a = c .before .before .before .args in
-    let s = subst (λ (b : CodeAct). SettlesOn b (a .code) (a .p) (a .loaded) (a .figures) (c .open-as2 .result)) (sym (c .before .enum-told4 .given .1)) (c .open-as2 .ensures) in
-    (s, λ b i h. acts h (a .act) (c .open-as2 .result) s)
+    let s = subst (λ (b : CodeAct). SettlesOn b (a .desk) (a .code) (a .p) (a .loaded) (a .figures) (c .open-as2 .result)) (sym (c .before .enum-told4 .given .1)) (c .open-as2 .ensures) in
+    (s, λ b i h. acts h (a .desk) (a .act) (c .open-as2 .result) s)
 
 returns-5 : tie.Need-returns-5
 returns-5 c =
     let a = c .before .before .before .args in
-    let s = subst (λ (b : CodeAct). SettlesOn b (a .code) (a .p) (a .loaded) (a .figures) (c .confirm-at .result)) (sym (c .before .enum-told5 .given .1)) (c .confirm-at .ensures) in
-    (s, λ b i h. acts h (a .act) (c .confirm-at .result) s)
+    let s = subst (λ (b : CodeAct). SettlesOn b (a .desk) (a .code) (a .p) (a .loaded) (a .figures) (c .confirm-at .result)) (sym (c .before .enum-told5 .given .1)) (c .confirm-at .ensures) in
+    (s, λ b i h. acts h (a .desk) (a .act) (c .confirm-at .result) s)
 
 pub settle-spec : {M : Type 1} → statement M
 settle-spec =

@@ -15,20 +15,26 @@ enum-told-2 c = search needs
 enum-told-3 : tie.Need-enum-told-3
 enum-told-3 c = search needs
 
-put-error-requires : tie.Need-put-error-requires
-put-error-requires c κs = search needs
+slice-aggregate-put-error-text : tie.Need-slice-aggregate-put-error-text
+slice-aggregate-put-error-text c = search needs
 
-slice-aggregate-put-text : tie.Need-slice-aggregate-put-text
-slice-aggregate-put-text c = search needs
+put-error-text-requires : tie.Need-put-error-text-requires
+put-error-text-requires c κs = search needs
 
-put-text-requires : tie.Need-put-text-requires
-put-text-requires c κs = search needs
+enum-told-4 : tie.Need-enum-told-4
+enum-told-4 c = search needs
+
+slice-aggregate-put-error-text-2 : tie.Need-slice-aggregate-put-error-text-2
+slice-aggregate-put-error-text-2 c = search needs
+
+put-error-text-requires-2 : tie.Need-put-error-text-requires-2
+put-error-text-requires-2 c κs = search needs
 
 enum-known-request : tie.Need-enum-known-request
 enum-known-request c = search needs
 
-put-error-requires-2 : tie.Need-put-error-requires-2
-put-error-requires-2 c κs = search needs
+put-error-requires : tie.Need-put-error-requires
+put-error-requires c κs = search needs
 
 put-not-a-number-requires : tie.Need-put-not-a-number-requires
 put-not-a-number-requires c κs = search needs
@@ -36,8 +42,8 @@ put-not-a-number-requires c κs = search needs
 enum-known-request-2 : tie.Need-enum-known-request-2
 enum-known-request-2 c = search needs
 
-put-error-requires-3 : tie.Need-put-error-requires-3
-put-error-requires-3 c κs = search needs
+put-error-requires-2 : tie.Need-put-error-requires-2
+put-error-requires-2 c κs = search needs
 
 put-wrong-count-requires : tie.Need-put-wrong-count-requires
 put-wrong-count-requires c κs = search needs
@@ -52,19 +58,25 @@ same-length : tie.Need-same-length
 same-length c = search needs
 
 returns-3 : tie.Need-returns-3
-returns-3 c = rw (c .before .before .before .before .before .before .before .before .before .enum-told3 .given .1) (puts-behind (c .before .before .before .before .before .before .before .put-error .ensures .0) (c .before .before .put-text .ensures))
+returns-3 c = rw (c .before .before .before .before .before .enum-told3 .given .1) (c .before .before .put-error-text .ensures)
 
 same-length-2 : tie.Need-same-length-2
 same-length-2 c = search needs
 
 returns-4 : tie.Need-returns-4
-returns-4 c = rw (c .before .before .before .before .before .before .before .before .before .request .given .1) (puts-behind (c .before .before .before .before .before .before .put-error2 .ensures .0) (c .before .before .put-not-a-number .ensures))
+returns-4 c = rw (c .before .before .before .before .before .enum-told4 .given .1) (c .before .before .put-error-text2 .ensures)
 
 same-length-3 : tie.Need-same-length-3
 same-length-3 c = search needs
 
 returns-5 : tie.Need-returns-5
-returns-5 c = rw (c .before .before .before .before .before .before .before .before .before .request2 .given .1) (puts-behind (c .before .before .before .before .before .before .put-error3 .ensures .0) (c .before .before .put-wrong-count .ensures))
+returns-5 c = rw (c .before .before .before .before .before .before .before .before .before .request .given .1) (puts-behind (c .before .before .before .before .before .before .put-error .ensures .0) (c .before .before .put-not-a-number .ensures))
+
+same-length-4 : tie.Need-same-length-4
+same-length-4 c = search needs
+
+returns-6 : tie.Need-returns-6
+returns-6 c = rw (c .before .before .before .before .before .before .before .before .before .request2 .given .1) (puts-behind (c .before .before .before .before .before .before .put-error2 .ensures .0) (c .before .before .put-wrong-count .ensures))
 
 pub put-problem-spec : {M : Type 1} → statement M
 put-problem-spec =
@@ -73,14 +85,16 @@ put-problem-spec =
     enum-told
     enum-told-2
     enum-told-3
-    put-error-requires
-    slice-aggregate-put-text
-    put-text-requires
+    slice-aggregate-put-error-text
+    put-error-text-requires
+    enum-told-4
+    slice-aggregate-put-error-text-2
+    put-error-text-requires-2
     enum-known-request
-    put-error-requires-2
+    put-error-requires
     put-not-a-number-requires
     enum-known-request-2
-    put-error-requires-3
+    put-error-requires-2
     put-wrong-count-requires
     returns
     returns-2
@@ -89,4 +103,6 @@ put-problem-spec =
     same-length-2
     returns-4
     same-length-3
-    returns-5)
+    returns-5
+    same-length-4
+    returns-6)

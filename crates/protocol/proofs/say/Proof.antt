@@ -8,7 +8,7 @@ use Rattle.protocol.proofs.say.Statement.{statement}
 use Rattle.protocol.proofs.say.Tie as tie
 
 -- a call's numbers stand where they should
-ready : (c : tie.After-known-told) → Ready (c .before .asked .given .0 .0) (c .before .asked .given .0 .1 .0) (c .before .before .before .before .before .before .before .before .before .before .args .line .now) (c .before .before .before .before .before .request-of .last .1 .0)
+ready : (c : tie.After-known-told) → Ready (c .before .asked .given .0 .1 .0) (c .before .asked .given .0 .1 .1 .0) (c .before .before .before .before .before .before .before .before .before .before .args .line .now) (c .before .before .before .before .before .request-of .last .1 .0)
 ready c = rw (c .before .asked .given .1) at (c .before .before .before .before .before .request-of .ensures .1)
 
 request-of-requires : tie.Need-request-of-requires
@@ -45,27 +45,27 @@ same-length-3 : tie.Need-same-length-3
 same-length-3 c = search needs
 
 returns-2 : tie.Need-returns-2
-returns-2 c = λ b reach. says-to-do b reach _ _ _ (c .before .before .before .before .before .before .before .before .before .before .before .before .args .at) _ _ _ _ _ _ (c .before .before .before .before .before .before .before .request-of .ensures .0) (c .before .before .before .asked .given .1) (c .enum-told .given .1) (ready (c .before .before)) refl
+returns-2 c = λ b reach. says-to-do b reach _ _ _ (c .before .before .before .before .before .before .before .before .before .before .before .before .args .at) _ _ _ _ _ _ _ (c .before .before .before .before .before .before .before .request-of .ensures .0) (c .before .before .before .asked .given .1) (c .enum-told .given .1) (ready (c .before .before)) refl
 
 same-length-4 : tie.Need-same-length-4
 same-length-4 c = search needs
 
 returns-3 : tie.Need-returns-3
 returns-3 c = λ b reach.
-    let to-do = says-to-do b reach _ _ _ (c .before .before .before .before .before .before .before .before .before .before .before .before .args .at) _ _ _ _ _ _ (c .before .before .before .before .before .before .before .request-of .ensures .0) (c .before .before .before .asked .given .1) (c .enum-told2 .given .1) (ready (c .before .before)) refl in
+    let to-do = says-to-do b reach _ _ _ (c .before .before .before .before .before .before .before .before .before .before .before .before .args .at) _ _ _ _ _ _ _ (c .before .before .before .before .before .before .before .request-of .ensures .0) (c .before .before .before .asked .given .1) (c .enum-told2 .given .1) (ready (c .before .before)) refl in
     (to-do .0, to-do .3)
 
 same-length-5 : tie.Need-same-length-5
 same-length-5 c = search needs
 
 returns-4 : tie.Need-returns-4
-returns-4 c = λ b reach. says-to-do b reach _ _ _ (c .before .before .before .before .before .before .before .before .before .before .before .before .before .args .at) _ _ _ _ _ _ (c .before .before .before .before .before .before .before .before .request-of .ensures .0) (c .before .before .before .before .asked .given .1) (c .before .word .given .1) (ready (c .before .before .before)) refl
+returns-4 c = λ b reach. says-to-do b reach _ _ _ (c .before .before .before .before .before .before .before .before .before .before .before .before .before .args .at) _ _ _ _ _ _ _ (c .before .before .before .before .before .before .before .before .request-of .ensures .0) (c .before .before .before .before .asked .given .1) (c .before .word .given .1) (ready (c .before .before .before)) refl
 
 same-length-6 : tie.Need-same-length-6
 same-length-6 c = search needs
 
 returns-5 : tie.Need-returns-5
-returns-5 c = λ b reach. says-to-do b reach _ _ _ (c .before .before .before .before .before .before .before .before .before .before .before .before .before .args .at) _ _ _ _ _ _ (c .before .before .before .before .before .before .before .before .request-of .ensures .0) (c .before .before .before .before .asked .given .1) (c .before .word2 .given .1) (ready (c .before .before .before)) refl
+returns-5 c = λ b reach. says-to-do b reach _ _ _ (c .before .before .before .before .before .before .before .before .before .before .before .before .before .args .at) _ _ _ _ _ _ _ (c .before .before .before .before .before .before .before .before .request-of .ensures .0) (c .before .before .before .before .asked .given .1) (c .before .word2 .given .1) (ready (c .before .before .before)) refl
 
 pub say-spec : {M : Type 1} → statement M
 say-spec =

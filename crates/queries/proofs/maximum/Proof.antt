@@ -1,4 +1,4 @@
--- `queries::maximum` meets its contract: behind 13 and 10 it works with the numbers of the cell.
+-- `queries::maximum` meets its contract: behind 13, 17 and 10 it works with the numbers of the cell.
 -- Assumes nothing.
 use mathlib.Core.Path.{_≡_, sym, _∙_, ap, ap₂}
 use mathlib.Core.Bool.{true, _&&_}
@@ -11,6 +11,7 @@ use Rattle.refusal.proofs.Checks.{unless-passes, first-passes}
 use Rattle.cap.specs.declared.CellNumbers.{CellNumbers}
 use Rattle.cap.specs.Cap.{maximum}
 use Rattle.stands.proofs.InForce.{figures-are, figures-lawful}
+use Rattle.desks.specs.Desks.{mayQuery}
 use Rattle.queries.specs.Queries.{Telling, maximumCharge, inRanges}
 use Rattle.verdict.specs.Cells.{cell, cellNumbers}
 use Rattle.queries.proofs.Ranges.{within, total-in-range}
@@ -21,18 +22,18 @@ use Rattle.queries.proofs.maximum.Tie as tie
 
 -- the checks, one after the other
 checks : (c : tie.After-first) → let a = c .before .before .before .args in
-    c .first .result ≡ first (unless (inRanges (a .region) (a .arrangement) (a .method) && leb (a .total) 120000) 13 Pass) (unless (a .b .loaded) 10 Pass)
-checks c = c .first .ensures ∙ ap₂ first (c .before .before .ranges-check .ensures) (c .before .sheet-check .ensures)
+    c .first .result ≡ first (first (unless (inRanges (a .region) (a .arrangement) (a .method) && leb (a .total) 120000) 13 Pass) (unless (mayQuery (a .desk) (a .region)) 17 Pass)) (unless (a .b .loaded) 10 Pass)
+checks c = c .first .ensures ∙ ap₂ first (c .before .before .asked-check .ensures) (c .before .sheet-check .ensures)
 
 -- past them
 passed : (c : tie.After-enum-told) → let a = c .before .before .before .before .before .args in
     ((inRanges (a .region) (a .arrangement) (a .method) && leb (a .total) 120000) ≡ true) × (a .b .loaded ≡ true)
 passed c =
     let both = first-passes _ _ (sym (checks (c .before .before)) ∙ c .enum-told .given .1) in
-    (unless-passes _ 13 Pass (both .0) .0, unless-passes _ 10 Pass (both .1) .0)
+    (unless-passes _ 13 Pass (first-passes _ _ (both .0) .0) .0, unless-passes _ 10 Pass (both .1) .0)
 
-ranges-check-requires : tie.Need-ranges-check-requires
-ranges-check-requires c κs = search needs
+asked-check-requires : tie.Need-asked-check-requires
+asked-check-requires c κs = search needs
 
 sheet-check-requires : tie.Need-sheet-check-requires
 sheet-check-requires c κs = search needs
@@ -53,7 +54,7 @@ returns : tie.Need-returns
 returns c =
     let f = c .before .before .before in
     let a = f .before .before .before .args in
-    hands-on _ _ _ _ _ _ (maximum-answer (a .b) (a .region) (a .arrangement) (a .method) (a .total)) (checks f) (c .before .enum-told2 .given .1) (c .refused .ensures)
+    hands-on _ _ _ _ _ _ (maximum-answer (a .b) (a .desk) (a .region) (a .arrangement) (a .method) (a .total)) (checks f) (c .before .enum-told2 .given .1) (c .refused .ensures)
 
 numbers-in-requires : tie.Need-numbers-in-requires
 numbers-in-requires c κs =
@@ -86,13 +87,13 @@ returns-2 c =
     ap (λ (n : ℕ). maximumCharge (record { number = n; denominator = 12 * e .numbers-in .result .m })) most
     ∙ ap {B = Telling} (λ (d : CellNumbers). maximumCharge (record { number = maximum d (a .total); denominator = 12 * d .m }))
     (e .numbers-in .ensures .0 ∙ ap (λ f. cellNumbers f (a .arrangement) 0 (cell (a .region) (a .method))) (figures-are (a .b) (st .pre) (passed t .1)))
-    ∙ passed-on _ _ _ _ (maximum-answer (a .b) (a .region) (a .arrangement) (a .method) (a .total)) (checks f) (t .enum-told .given .1)
+    ∙ passed-on _ _ _ _ (maximum-answer (a .b) (a .desk) (a .region) (a .arrangement) (a .method) (a .total)) (checks f) (t .enum-told .given .1)
 
 pub maximum-spec : {M : Type 1} → statement M
 maximum-spec =
     tie.close
     (tie.spec
-    ranges-check-requires
+    asked-check-requires
     sheet-check-requires
     first-requires
     enum-told

@@ -3,8 +3,8 @@
 use mathlib.Core.Path.{sym, subst}
 use Rattle.book.specs.Book.{fresh, answersOf}
 use Rattle.book.proofs.Reached.{fresh-reachable}
-use Rattle.history.specs.Claim.{Demand3}
-use Rattle.history.proofs.Demand3.{demand3}
+use Rattle.claim.specs.Claim.{Demand3}
+use Rattle.claim.proofs.Demand3.{demand3}
 use borrow.Author.Needs.{needs}
 use Rattle.replay.proofs.run.Statement.{statement}
 use Rattle.replay.proofs.run.Tie as tie

@@ -1,18 +1,15 @@
--- `setting::set` meets its contract: what the sheet comes to is stored.
+-- `setting::set` meets its contract: 17, or what it does for a desk with all fourteen regions.
 -- Assumes nothing.
-use mathlib.Core.Path.{refl, sym, _∙_}
-use mathlib.Core.Bool.{true}
-use Rattle.benchmark.proofs.Lawful.{passed-count}
-use Rattle.benchmark.specs.Benchmark.{setCheck}
-use Rattle.book.specs.Calls.{sheetAt, SET, call}
-use Rattle.book.proofs.Steps.{refuses, accepts}
-use Rattle.stands.proofs.InForce.{holds-at}
+use mathlib.Core.Path.{refl, sym, subst}
+use Rattle.book.specs.Calls.{sheetAt, SET, by}
+use Rattle.book.specs.Promises.{Does}
+use Rattle.book.proofs.Desks.{is-full, turned-away}
 use borrow.Author.Needs.{needs}
 use Rattle.setting.proofs.set.Statement.{statement}
 use Rattle.setting.proofs.set.Tie as tie
 
-judge-requires : tie.Need-judge-requires
-judge-requires c κs = let st = c .before .before in holds-at (st .args .b) (st .pre)
+full-check-requires : tie.Need-full-check-requires
+full-check-requires c κs = search needs
 
 enum-told : tie.Need-enum-told
 enum-told c = search needs
@@ -25,47 +22,23 @@ answered-requires c κs = search needs
 
 returns : tie.Need-returns
 returns c =
-    let j = c .before .before .before in
-    let st = j .before .before .before in
-    let s = sheetAt (st .args .fields .now) (st .args .period) in
-    rw (c .answered .ensures) (refuses (st .args .b) (call (SET s)) (setCheck (s .fields) (s .period)) refl _ _ (j .judge .ensures .checks) (c .before .enum-told2 .given .1))
+    let full = c .before .before .before in
+    let a = full .before .before .args in
+    rw (c .answered .ensures)
+    (turned-away (a .b) (a .desk) (SET (sheetAt (a .fields .now) (a .period))) _ refl _ _ (full .full-check .ensures) (c .before .enum-told2 .given .1))
 
-kept-of-requires : tie.Need-kept-of-requires
-kept-of-requires c κs = search needs
-
-fields-of-requires : tie.Need-fields-of-requires
-fields-of-requires c κs =
-    let told = c .before .before .before in
-    let j = told .before .before in
-    let st = j .before .before .before in
-    passed-count (st .args .fields .now) (st .args .period) (sym (j .judge .ensures .checks) ∙ told .enum-told .given .1)
-
-answered-requires-2 : tie.Need-answered-requires-2
-answered-requires-2 c κs = search needs
+put-in-force-requires : tie.Need-put-in-force-requires
+put-in-force-requires c κs = search needs
 
 returns-2 : tie.Need-returns-2
 returns-2 c =
-    let copy = c .before .before .before in
-    let kept = copy .before in
-    let told = kept .before .before .before in
-    let passes = told .enum-told .given .1 in
-    let j = told .before .before in
-    let st = j .before .before .before in
-    let s = sheetAt (st .args .fields .now) (st .args .period) in
-    rw (c .answered2 .ensures)
-    (accepts (st .args .b) (call (SET s)) (setCheck (s .fields) (s .period)) refl _ (j .judge .ensures .checks) passes _
-    (λ i. record { loaded = true; fields = copy .fields-of .ensures i; period = st .args .period; benchmarks = j .judge .ensures .works passes i; places = j .judge .ensures .places passes i; kept = kept .kept-of .ensures i }))
+    let told = c .before in
+    let full = told .before .before in
+    let a = full .before .before .args in
+    subst (λ desk. Does (a .b) (by desk (SET (sheetAt (a .fields .now) (a .period)))) (c .put-in-force .result))
+    (sym (is-full (a .desk) _ (full .full-check .ensures) (told .enum-told .given .1))) (c .put-in-force .ensures)
 
 pub set-spec : {M : Type 1} → statement M
 set-spec =
     tie.close
-    (tie.spec
-    judge-requires
-    enum-told
-    enum-told-2
-    answered-requires
-    returns
-    kept-of-requires
-    fields-of-requires
-    answered-requires-2
-    returns-2)
+    (tie.spec full-check-requires enum-told enum-told-2 answered-requires returns put-in-force-requires returns-2)

@@ -10,7 +10,7 @@ use lib.ListN.{length, getD, take}
 use lib.Seq.{length-take-le}
 use borrow.Author.Needs.{needs}
 use borrow.Author.Tests.{ltb-true}
-use Rattle.book.specs.Calls.{UNDO, call}
+use Rattle.book.specs.Calls.{UNDO, by}
 use Rattle.book.specs.Checks.{inside}
 use Rattle.book.specs.Book.{beyond}
 use Rattle.texts.proofs.Writing.{puts-size}
@@ -60,26 +60,26 @@ module _ (s : tie.After-slice-known4 Inv-loop μ-loop) where
   said-of = s .before .before .before .before .say-line .ensures (turn .loop .book) (turn .loop .inv .2 .reachable)
 
   -- what is still to be done, where it is that
-  abbrev Asks : Word → ℕ → Type 0
-  Asks w n = ToDo w n (turn .loop .book) line-of (turn .loop .out) (s .before .before .before .before .say-line .last .1 .1 .1 .1 .1 .1 .0) numbers-of
+  abbrev Asks : Word → (n desk : ℕ) → Type 0
+  Asks w n desk = ToDo w n desk (turn .loop .book) line-of (turn .loop .out) (s .before .before .before .before .say-line .last .1 .1 .1 .1 .1 .1 .0) numbers-of
 
-  asks-set : (n : ℕ) → s .before .before .before .before .say-line .result ≡ said.Set n → Asks word.Set n
-  asks-set n e = subst Saying e said-of
+  asks-set : (n desk : ℕ) → s .before .before .before .before .say-line .result ≡ said.Set n desk → Asks word.Set n desk
+  asks-set n desk e = subst Saying e said-of
 
-  asks-undo : s .before .before .before .before .say-line .result ≡ said.Undo
-      → (line-of ≡ stepLine (turn .loop .book) (call UNDO)) × (s .before .before .before .before .say-line .last .1 .1 .1 .1 .1 .1 .0 ≡ turn .loop .out)
-  asks-undo e = subst Saying e said-of
+  asks-undo : (desk : ℕ) → s .before .before .before .before .say-line .result ≡ said.Undo desk
+      → (line-of ≡ stepLine (turn .loop .book) (by desk UNDO)) × (s .before .before .before .before .say-line .last .1 .1 .1 .1 .1 .1 .0 ≡ turn .loop .out)
+  asks-undo desk e = subst Saying e said-of
 
-  asks-on : (step : CodeStep) (n : ℕ) → s .before .before .before .before .say-line .result ≡ said.On step n → Asks (word.On step) n
-  asks-on step n e = subst Saying e said-of
+  asks-on : (step : CodeStep) (n desk : ℕ) → s .before .before .before .before .say-line .result ≡ said.On step n desk → Asks (word.On step) n desk
+  asks-on step n desk e = subst Saying e said-of
 
-  asks-tells : (query : Query) (n : ℕ) → s .before .before .before .before .say-line .result ≡ said.Tells query n → Asks (word.Tells query) n
-  asks-tells query n e = subst Saying e said-of
+  asks-tells : (query : Query) (n desk : ℕ) → s .before .before .before .before .say-line .result ≡ said.Tells query n desk → Asks (word.Tells query) n desk
+  asks-tells query n desk e = subst Saying e said-of
 
   -- the place that a call on a code is made on
-  has : (step : CodeStep) (n i : ℕ) → Asks (word.On step) n → (i < 32) × (inside (getD numbers-of 0 0) ≡ true → suc i ≡ getD numbers-of 0 0)
+  has : (step : CodeStep) (n desk i : ℕ) → Asks (word.On step) n desk → (i < 32) × (inside (getD numbers-of 0 0) ≡ true → suc i ≡ getD numbers-of 0 0)
       → HasPlace (turn .loop .book) (getD (take n numbers-of) 0 0) i (getD (turn .loop .book .places) i beyond) (turn .loop .book .loaded) (turn .loop .book .benchmarks)
-  has step n i a h = has-place (turn .loop .book) numbers-of n i (turn .loop .inv .2 .reachable) (some-number step n (a .2)) h
+  has step n desk i a h = has-place (turn .loop .book) numbers-of n i (turn .loop .inv .2 .reachable) (some-number step n (a .2)) h
 
 -- after any of the arms it is answered
 line-done : (c : tie.At-match-came Inv-loop μ-loop)
@@ -90,28 +90,28 @@ line-done c =
     (λ w. rw (w .3, w .4, w .5) (subst (Saying s) (w .1 .given .1) (said-of s)))
     (⊎-elim
     (λ w.
-    let a = asks-set s _ (w .1 .given .1) in
+    let a = asks-set s _ _ (w .1 .given .1) in
     rw (w .9, w .10, w .11, a .0) (rw (a .3) at (w .5 .ensures)))
     (⊎-elim
     (λ w.
-    let a = asks-undo s (w .1 .given .1) in
-    rw (w .7, w .8, w .9, a .0) (rw (a .1) at (w .3 .ensures)))
+    let a = asks-undo s _ (w .1 .given .1) in
+    rw (w .8, w .9, w .10, a .0) (rw (a .1) at (w .4 .ensures)))
     (⊎-elim
     (λ w.
-    let a = asks-on s _ _ (w .1 .given .1) in
+    let a = asks-on s _ _ _ (w .1 .given .1) in
     let b = turn s .loop .book in
     let gone = w .15 .ensures ∙ kept-gone (w .9 .result .reply) (b .kept) (sym (w .13 .ensures) ∙ w .14 .taken) in
     rw (w .16, w .17, w .18, a .0)
-    (stored-answered b (w .4 .result) (w .9 .result .place) (w .9 .result .reply) gone (rw (a .3) at (w .9 .ensures _ _ (has s (w .1 .given .0 .0) (w .1 .given .0 .1 .0) _ a (w .4 .ensures))))))
+    (stored-answered b (w .4 .result) (w .9 .result .place) (w .9 .result .reply) gone (rw (a .3) at (w .9 .ensures _ _ (has s (w .1 .given .0 .0) (w .1 .given .0 .1 .0) _ _ a (w .4 .ensures))))))
     (⊎-elim
     (λ w.
-    let a = asks-on s _ _ (w .1 .given .1) in
+    let a = asks-on s _ _ _ (w .1 .given .1) in
     let b = turn s .loop .book in
     let stays = kept-stays (w .9 .result .reply) b (turn s .loop .inv .2 .reachable) (sym (w .13 .ensures) ∙ w .14 .left) in
     rw (w .15, w .16, w .17, a .0)
-    (stored-answered b (w .4 .result) (w .9 .result .place) (w .9 .result .reply) stays (rw (a .3) at (w .9 .ensures _ _ (has s (w .1 .given .0 .0) (w .1 .given .0 .1 .0) _ a (w .4 .ensures))))))
+    (stored-answered b (w .4 .result) (w .9 .result .place) (w .9 .result .reply) stays (rw (a .3) at (w .9 .ensures _ _ (has s (w .1 .given .0 .0) (w .1 .given .0 .1 .0) _ _ a (w .4 .ensures))))))
     (λ w.
-    let a = asks-tells s _ _ (w .1 .given .1) in
+    let a = asks-tells s _ _ _ (w .1 .given .1) in
     rw (w .8, w .9, w .10, a .0) (rw (a .3) at (w .5 .ensures)))))))
     (c .match .came)
 
@@ -146,33 +146,33 @@ enum-known-said-2 : tie.Need-enum-known-said-2 Inv-loop μ-loop
 enum-known-said-2 c = c .match .keys2
 
 slice-reshare-prefix-do-set : tie.Need-slice-reshare-prefix-do-set Inv-loop μ-loop
-slice-reshare-prefix-do-set c = asks-set (c .before .before .before) _ (c .before .said2 .given .1) .1
+slice-reshare-prefix-do-set c = asks-set (c .before .before .before) _ _ (c .before .said2 .given .1) .1
 
 slice-aggregate-do-set : tie.Need-slice-aggregate-do-set Inv-loop μ-loop
-slice-aggregate-do-set c = sym (length-take-le _ _ (asks-set (c .before .before .before .before) _ (c .before .before .said2 .given .1) .1))
+slice-aggregate-do-set c = sym (length-take-le _ _ (asks-set (c .before .before .before .before) _ _ (c .before .before .said2 .given .1) .1))
 
 do-set-requires : tie.Need-do-set-requires Inv-loop μ-loop
 do-set-requires c κs =
     let s = c .before .before .before .before .before in
-    let a = asks-set s _ (c .before .before .before .said2 .given .1) in
+    let a = asks-set s _ _ (c .before .before .before .said2 .given .1) in
     (turn s .loop .inv .2 .reachable, rw (length-take-le (c .before .before .before .said2 .given .0 .0) (numbers-of s) (a .1)) (a .2), omega (arith, ap length (a .3), room-for (s .before .before .before .before .before .before .before .before) (s .before .before .before .before .before .before .before .if1 .taken) .0))
 
-enum-told : tie.Need-enum-told Inv-loop μ-loop
-enum-told c = c .match .keys3
+enum-known-said-3 : tie.Need-enum-known-said-3 Inv-loop μ-loop
+enum-known-said-3 c = c .match .keys3
 
 do-undo-requires : tie.Need-do-undo-requires Inv-loop μ-loop
 do-undo-requires c κs =
-    let s = c .before .before .before in
-    let a = asks-undo s (c .before .enum-told .given .1) in
+    let s = c .before .before .before .before in
+    let a = asks-undo s _ (c .before .before .said3 .given .1) in
     (turn s .loop .inv .2 .reachable, omega (arith, ap length (a .1), room-for (s .before .before .before .before .before .before .before .before) (s .before .before .before .before .before .before .before .if1 .taken) .0))
 
-enum-known-said-3 : tie.Need-enum-known-said-3 Inv-loop μ-loop
-enum-known-said-3 c = c .match .keys4
+enum-known-said-4 : tie.Need-enum-known-said-4 Inv-loop μ-loop
+enum-known-said-4 c = c .match .keys4
 
 slice-read-index-of : tie.Need-slice-read-index-of Inv-loop μ-loop
 slice-read-index-of c =
-    let a = asks-on (c .before .before .before .before) _ _ (c .before .before .said3 .given .1) in
-    omega (arith, a .1, some-number (c .before .before .said3 .given .0 .0) (c .before .before .said3 .given .0 .1 .0) (a .2))
+    let a = asks-on (c .before .before .before .before) _ _ _ (c .before .before .said4 .given .1) in
+    omega (arith, a .1, some-number (c .before .before .said4 .given .0 .0) (c .before .before .said4 .given .0 .1 .0) (a .2))
 
 index-of-requires : tie.Need-index-of-requires Inv-loop μ-loop
 index-of-requires c κs = search needs
@@ -184,17 +184,17 @@ element-copy-out-p : tie.Need-element-copy-out-p Inv-loop μ-loop
 element-copy-out-p c = search needs
 
 slice-reshare-prefix-do-on : tie.Need-slice-reshare-prefix-do-on Inv-loop μ-loop
-slice-reshare-prefix-do-on c = asks-on (c .before .before .before .before .before .before .before) _ _ (c .before .before .before .before .before .said3 .given .1) .1
+slice-reshare-prefix-do-on c = asks-on (c .before .before .before .before .before .before .before) _ _ _ (c .before .before .before .before .before .said4 .given .1) .1
 
 slice-aggregate-do-on : tie.Need-slice-aggregate-do-on Inv-loop μ-loop
-slice-aggregate-do-on c = sym (length-take-le _ _ (asks-on (c .before .before .before .before .before .before .before .before) _ _ (c .before .before .before .before .before .before .said3 .given .1) .1))
+slice-aggregate-do-on c = sym (length-take-le _ _ (asks-on (c .before .before .before .before .before .before .before .before) _ _ _ (c .before .before .before .before .before .before .said4 .given .1) .1))
 
 do-on-requires : tie.Need-do-on-requires Inv-loop μ-loop
 do-on-requires c κs =
     let s = c .before .before .before .before .before .before .before .before .before in
-    let a = asks-on s _ _ (c .before .before .before .before .before .before .before .said3 .given .1) in (
-      (turn s .loop .book, c .before .before .before .before .index-of .result, has s (c .before .before .before .before .before .before .before .said3 .given .0 .0) (c .before .before .before .before .before .before .before .said3 .given .0 .1 .0) _ a (c .before .before .before .before .index-of .ensures)),
-      rw (length-take-le (c .before .before .before .before .before .before .before .said3 .given .0 .1 .0) (numbers-of s) (a .1)) (a .2),
+    let a = asks-on s _ _ _ (c .before .before .before .before .before .before .before .said4 .given .1) in (
+      (turn s .loop .book, c .before .before .before .before .index-of .result, has s (c .before .before .before .before .before .before .before .said4 .given .0 .0) (c .before .before .before .before .before .before .before .said4 .given .0 .1 .0) _ _ a (c .before .before .before .before .index-of .ensures)),
+      rw (length-take-le (c .before .before .before .before .before .before .before .said4 .given .0 .1 .0) (numbers-of s) (a .1)) (a .2),
       omega (arith, ap length (a .3), room-for (s .before .before .before .before .before .before .before .before) (s .before .before .before .before .before .before .before .if1 .taken) .0),
     )
 
@@ -210,20 +210,20 @@ ends-undo-requires c κs = search needs
 nothing-kept-requires : tie.Need-nothing-kept-requires Inv-loop μ-loop
 nothing-kept-requires c κs = search needs
 
-enum-known-said-4 : tie.Need-enum-known-said-4 Inv-loop μ-loop
-enum-known-said-4 c = c .match .keys5
+enum-known-said-5 : tie.Need-enum-known-said-5 Inv-loop μ-loop
+enum-known-said-5 c = c .match .keys5
 
 slice-reshare-prefix-do-tell : tie.Need-slice-reshare-prefix-do-tell Inv-loop μ-loop
-slice-reshare-prefix-do-tell c = asks-tells (c .before .before .before) _ _ (c .before .said4 .given .1) .1
+slice-reshare-prefix-do-tell c = asks-tells (c .before .before .before) _ _ _ (c .before .said5 .given .1) .1
 
 slice-aggregate-do-tell : tie.Need-slice-aggregate-do-tell Inv-loop μ-loop
-slice-aggregate-do-tell c = sym (length-take-le _ _ (asks-tells (c .before .before .before .before) _ _ (c .before .before .said4 .given .1) .1))
+slice-aggregate-do-tell c = sym (length-take-le _ _ (asks-tells (c .before .before .before .before) _ _ _ (c .before .before .said5 .given .1) .1))
 
 do-tell-requires : tie.Need-do-tell-requires Inv-loop μ-loop
 do-tell-requires c κs =
     let s = c .before .before .before .before .before in
-    let asked = c .before .before .before .said4 .given in
-    let a = asks-tells s _ _ (asked .1) in
+    let asked = c .before .before .before .said5 .given in
+    let a = asks-tells s _ _ _ (asked .1) in
     (turn s .loop .inv .2 .reachable, rw (length-take-le (asked .0 .1 .0) (numbers-of s) (a .1)) (a .2), omega (arith, ap length (a .3), room-for (s .before .before .before .before .before .before .before .before) (s .before .before .before .before .before .before .before .if1 .taken) .0))
 
 add-from : tie.Need-add-from Inv-loop μ-loop
@@ -290,9 +290,9 @@ take-lines-spec =
     slice-reshare-prefix-do-set
     slice-aggregate-do-set
     do-set-requires
-    enum-told
-    do-undo-requires
     enum-known-said-3
+    do-undo-requires
+    enum-known-said-4
     slice-read-index-of
     index-of-requires
     mul-p
@@ -304,7 +304,7 @@ take-lines-spec =
     element-set-from-place
     ends-undo-requires
     nothing-kept-requires
-    enum-known-said-4
+    enum-known-said-5
     slice-reshare-prefix-do-tell
     slice-aggregate-do-tell
     do-tell-requires

@@ -1,27 +1,15 @@
--- `undo::undo` meets its contract: 15, or the book restored. What is kept of a reachable book is one that stands, so the figures worked out
--- are those of its sheet.
+-- `undo::undo` meets its contract: 17, or what it does for a desk with all fourteen regions.
 -- Assumes nothing.
-use mathlib.Core.Path.{_≡_, refl, sym, _∙_}
-use mathlib.Core.Bool.{Bool, true, false}
-use Rattle.refusal.specs.declared.Check.the-variants.{Pass}
-use Rattle.refusal.specs.Checks.{unless, checked, need}
-use Rattle.refusal.proofs.Checks.{unless-passes}
-use Rattle.book.specs.Calls.{UNDO, call, accepted, refused}
-use Rattle.book.specs.Book.{restored}
-use Rattle.book.proofs.Steps.{refuses, accepts}
-use Rattle.stands.proofs.Kept.{reachable-stands}
-use Rattle.undo.proofs.Figures.{figures-worked}
+use mathlib.Core.Path.{refl, sym, subst}
+use Rattle.book.specs.Calls.{UNDO, by}
+use Rattle.book.specs.Promises.{Does}
+use Rattle.book.proofs.Desks.{is-full, turned-away}
 use borrow.Author.Needs.{needs}
 use Rattle.undo.proofs.undo.Statement.{statement}
 use Rattle.undo.proofs.undo.Tie as tie
 
--- the table of UNDO is its one check
-undo-table : (t : Bool) → need refused t 15 accepted ≡ checked refused (unless t 15 Pass) accepted
-undo-table true = refl
-undo-table false = refl
-
-kept-check-requires : tie.Need-kept-check-requires
-kept-check-requires c κs = search needs
+full-check-requires : tie.Need-full-check-requires
+full-check-requires c κs = search needs
 
 enum-told : tie.Need-enum-told
 enum-told c = search needs
@@ -34,53 +22,22 @@ answered-requires c κs = search needs
 
 returns : tie.Need-returns
 returns c =
-    let k = c .before .before .before in
-    let b = k .before .before .args .b in
-    rw (c .answered .ensures) (refuses b (call UNDO) (unless (b .kept .any) 15 Pass) (undo-table (b .kept .any)) _ _ (k .kept-check .ensures) (c .before .enum-told2 .given .1))
+    let full = c .before .before .before in
+    let a = full .before .args in
+    rw (c .answered .ensures) (turned-away (a .b) (a .desk) UNDO _ refl _ _ (full .full-check .ensures) (c .before .enum-told2 .given .1))
 
-slice-aggregate-work-out : tie.Need-slice-aggregate-work-out
-slice-aggregate-work-out c = search needs
-
-work-out-requires : tie.Need-work-out-requires
-work-out-requires c κs = search needs
-
-in-states-requires : tie.Need-in-states-requires
-in-states-requires c κs = search needs
-
-nothing-kept-requires : tie.Need-nothing-kept-requires
-nothing-kept-requires c κs = search needs
-
-answered-requires-2 : tie.Need-answered-requires-2
-answered-requires-2 c κs = search needs
+take-back-requires : tie.Need-take-back-requires
+take-back-requires c κs = search needs
 
 returns-2 : tie.Need-returns-2
 returns-2 c =
-    let n = c .before in
-    let p = n .before in
-    let w = p .before .before .before .before in
-    let told = w .before .before .before .before in
-    let k = told .before .before in
-    let st = k .before .before in
-    let b = st .args .b in
-    let passes = told .enum-told .given .1 in
-    let any = unless-passes (b .kept .any) 15 Pass (sym (k .kept-check .ensures) ∙ passes) .0 in
-    let fits = reachable-stands b (st .pre) .step-kept any .0 in
-    rw (c .answered2 .ensures)
-    (accepts b (call UNDO) (unless (b .kept .any) 15 Pass) (undo-table (b .kept .any)) _ (k .kept-check .ensures) passes _
-    (λ i. record { loaded = b .kept .loaded; fields = b .kept .fields; period = b .kept .period; benchmarks = (w .work-out .ensures .1 ∙ figures-worked (restored b) fits) i; places = p .in-states .ensures i; kept = n .nothing-kept .ensures i }))
+    let told = c .before in
+    let full = told .before .before in
+    let a = full .before .args in
+    subst (λ desk. Does (a .b) (by desk UNDO) (c .take-back .result)) (sym (is-full (a .desk) _ (full .full-check .ensures) (told .enum-told .given .1)))
+    (c .take-back .ensures)
 
 pub undo-spec : {M : Type 1} → statement M
 undo-spec =
     tie.close
-    (tie.spec
-    kept-check-requires
-    enum-told
-    enum-told-2
-    answered-requires
-    returns
-    slice-aggregate-work-out
-    work-out-requires
-    in-states-requires
-    nothing-kept-requires
-    answered-requires-2
-    returns-2)
+    (tie.spec full-check-requires enum-told enum-told-2 answered-requires returns take-back-requires returns-2)

@@ -1,8 +1,8 @@
 //! Compares another program's answers with this book's.
 //!
 //!     compare PROGRAM                  conversations, a fuzz of bytes, all periods, all short
-//!                                      lists of calls on one code and random calls from fixed
-//!                                      seeds, and what they must have reached
+//!                                      lists of calls on one code, pairs of books and random
+//!                                      calls from fixed seeds, and what they must have reached
 //!     compare PROGRAM --counts         the same, with all the counts
 //!     compare PROGRAM --commit HEX     the same, and a seed of the commit's own
 //!     compare PROGRAM SEED..           conversations, bytes and calls from these seeds
@@ -13,11 +13,11 @@
 use std::process::ExitCode;
 use std::time::Instant;
 
-use second::bars::{missed, BARS};
+use second::bars::{bars, missed};
 use second::counts::Counts;
 use second::program::Program;
 use second::runs::*;
-use second::script::{BEGINNINGS, LISTS};
+use second::script::{BEGINNINGS, BEGINNINGS_WITH_DESKS, LISTS, LISTS_WITH_DESKS};
 use second::side_by_side::{in_parts, side_by_side};
 
 /// A closing line: how many, and of what.
@@ -29,7 +29,7 @@ fn tell_other_seed(seed: u64, whose: &str, again: &str) {
     let what = format!("random calls, answered alike, from {whose} {seed},");
     tell(CALLS as u64, &what);
     println!(
-        "{:>11}  with {OTHER_CONVERSATIONS} conversations and {OTHER_FUZZ_CASES} fuzz cases{again}",
+        "{:>11}  with {OTHER_CONVERSATIONS} conversations, {OTHER_FUZZ_CASES} fuzz cases and {PAIRS} pairs of books{again}",
         ""
     );
 }
@@ -49,6 +49,10 @@ fn fixed_run(program: &Program, commit: Option<u64>, all_counts: bool) -> Result
     let lists = every_list(program)?;
     let in_lists = lists.count("calls");
     tally.merge(lists);
+    let lists = every_list_with_desks(program)?;
+    let in_lists_with_desks = lists.count("calls");
+    tally.merge(lists);
+    tally.merge(fixed_pairs(program)?);
     let random = fixed_seeds(program)?;
     let random_calls = random.count("calls");
     tally.merge(random);
@@ -75,6 +79,14 @@ fn fixed_run(program: &Program, commit: Option<u64>, all_counts: bool) -> Result
         "",
         grouped(LISTS as u64),
         BEGINNINGS.len()
+    );
+    let what = "calls, answered alike, in all lists of up to three on one code by several desks:";
+    tell(in_lists_with_desks, what);
+    println!(
+        "{:>11}  {} lists, each from {} beginnings",
+        "",
+        grouped(LISTS_WITH_DESKS as u64),
+        BEGINNINGS_WITH_DESKS.len()
     );
     tell(
         count("sheets submitted"),
@@ -118,6 +130,36 @@ fn fixed_run(program: &Program, commit: Option<u64>, all_counts: bool) -> Result
         count("confirm refused 16"),
         "drafts not confirmed, without a mark",
     );
+    let sum = |wanted: &dyn Fn(&str) -> bool| -> u64 {
+        let met = counts.iter().filter(|(what, _)| wanted(what));
+        met.map(|(_, times)| times).sum()
+    };
+    tell(
+        sum(&|what| what.starts_with("desk ")),
+        "of all these calls by a desk that is named",
+    );
+    tell(
+        sum(&|what| what.ends_with(" refused 17") && what.split(' ').count() == 3),
+        "of these refused, outside the desk",
+    );
+    tell(
+        count("calls with desk 16383 before them"),
+        "calls answered alike without a desk and with desk 16383 before them",
+    );
+    let without = "two books, a desk without the region: ";
+    tell(
+        sum(&|what| what.starts_with(without)),
+        "calls answered alike by two books whose sheets differ outside the desk,",
+    );
+    println!(
+        "{:>11}  {} pairs of them",
+        "",
+        grouped(count("two books: pairs"))
+    );
+    tell(
+        sum(&|what| what.contains(": another answer to ")),
+        "calls answered otherwise by the two, to a desk that has such a region",
+    );
     tell(
         count("lines sent one by one, answered before the next"),
         "lines in conversation, each answered before the next was sent",
@@ -146,7 +188,7 @@ fn fixed_run(program: &Program, commit: Option<u64>, all_counts: bool) -> Result
         return Err(missed.join("\n"));
     }
     tell(
-        BARS.len() as u64,
+        bars().count() as u64,
         "counts of what was met in all this, each at its bar or above",
     );
     println!("{:>11}  in {:.0} s", "", start.elapsed().as_secs_f64());

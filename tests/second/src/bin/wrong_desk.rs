@@ -9,6 +9,7 @@ use std::io::{self, Read, Write};
 use std::process::ExitCode;
 use std::time::Duration;
 
+use desks::WrongDesks;
 use marks::{Made, WrongMarks};
 use second::desk::{Desk, LINE_LIMIT};
 use second::{
@@ -16,6 +17,8 @@ use second::{
     PEAK_SHARE, RECORD, REGIONAL, REGIONS, SMNCC, STANDING_LIMIT, WHOLE,
 };
 
+#[path = "wrong_desk/desks.rs"]
+mod desks;
 #[path = "wrong_desk/marks.rs"]
 mod marks;
 
@@ -37,6 +40,45 @@ struct WrongDesk {
     misjudged: (u32, u32),
     undos: WrongUndos,
     marks: WrongMarks,
+    desks: WrongDesks,
+}
+
+/// A line that is a call: its desk, if one is named, its word and its numbers.
+struct Named {
+    desk: Option<u32>,
+    call: String,
+    numbers: Vec<u32>,
+}
+
+impl Named {
+    fn of(line: &[u8]) -> Named {
+        let text = String::from_utf8_lossy(line);
+        let mut words = text.split_ascii_whitespace();
+        let mut call = words.next().unwrap_or_default();
+        let mut desk = None;
+        if call == "desk" {
+            desk = words.next().and_then(|word| word.parse().ok());
+            call = words.next().unwrap_or_default();
+        }
+        Named {
+            desk,
+            call: call.to_string(),
+            numbers: words.flat_map(str::parse).collect(),
+        }
+    }
+
+    fn line(desk: Option<u32>, call: &str, numbers: &[u32]) -> Vec<u8> {
+        let desk = desk.map_or(String::new(), |desk| format!("desk {desk} "));
+        let numbers: Vec<_> = numbers.iter().map(u32::to_string).collect();
+        format!("{desk}{call} {}", numbers.join(" ")).into_bytes()
+    }
+}
+
+/// The number of the refusal that an answer begins with, or 0.
+fn refusal_of(answer: &str) -> u32 {
+    let rest = answer.strip_prefix("refused ");
+    let number = rest.and_then(|rest| rest.split_whitespace().next());
+    number.and_then(|number| number.parse().ok()).unwrap_or(0)
 }
 
 /// UNDO by copies of the book, with a fault.
@@ -107,16 +149,30 @@ impl WrongDesk {
             "16,385 bytes are not too long" if line.len() == LINE_LIMIT + 1 => &line[..LINE_LIMIT],
             "the return is not counted" => line.strip_suffix(b"\r").unwrap_or(line),
             "a long comment is passed over" if comment => b"#",
+            "desks are not known" if line.starts_with(b"desk ") => b"unknown",
             _ => line,
         };
+        if self.fault_of("desks").is_some() {
+            return self.line_with_wrong_desks(line, out);
+        }
         let start = out.len();
-        let text = String::from_utf8_lossy(line);
-        let mut words = text.split_ascii_whitespace();
-        let call = words.next().unwrap_or_default();
-        let numbers: Vec<u32> = words.flat_map(str::parse).collect();
+        let Named {
+            desk,
+            call,
+            numbers,
+        } = Named::of(line);
+        let call = &call[..];
         let mut elsewhere = None;
         let mut other = None;
         if is_call(line) {
+            // The other faults are not of what is outside the desk.
+            let outside = || {
+                let answer = answer_of_line(self.desk.book().clone(), line);
+                answer.is_some_and(|answer| answer == "refused 17\n")
+            };
+            if desk.is_some() && outside() {
+                return self.desk.line(line, out);
+            }
             if self.fault_of("undo").is_some() {
                 return self.line_with_wrong_undo(call, &numbers, line, out);
             }
@@ -128,13 +184,14 @@ impl WrongDesk {
             }
             let book = self.wrong_book(call, &numbers);
             elsewhere = book.and_then(|book| answer_of(book, call, &numbers));
-            other = self.wrong_numbers(call, &numbers);
+            let for_all = [None, Some(16_383)].contains(&desk);
+            other = self.wrong_numbers(call, &numbers).filter(|_| for_all);
             if call == "set" && self.fault_of(call).is_some() {
                 self.misjudge(&numbers);
             }
         }
         match other {
-            Some(numbers) => self.desk.line(&call_line(call, &numbers), out),
+            Some(numbers) => self.desk.line(&Named::line(desk, call, &numbers), out),
             None => self.desk.line(line, out),
         }
         let answer = &out[start..];
@@ -163,6 +220,36 @@ impl WrongDesk {
         }
     }
 
+    /// A line to a desk that has desks with regions wrong.
+    fn line_with_wrong_desks(&mut self, line: &[u8], out: &mut Vec<u8>) {
+        let start = out.len();
+        let fault = self.fault_of("desks").unwrap_or_default().to_string();
+        let before = self.desk.book().clone();
+        self.desk.line(line, out);
+        let answer = String::from_utf8_lossy(&out[start..]).into_owned();
+        let mut wrong = desks::wrong_line(&fault, line, &answer, &before);
+        if !answer.is_empty() && !answer.starts_with("error") {
+            let named = Named::of(line);
+            let asked = desks::Asked {
+                named: &named,
+                answer: &answer,
+                before: &before,
+                after: self.desk.book(),
+                records: &self.records,
+            };
+            wrong = wrong.or_else(|| self.desks.answer(&fault, &asked));
+            self.desks.after(&fault, &asked);
+            if named.call == "put" && answer == "ok\n" {
+                let record = named.numbers[1..].try_into();
+                self.records[named.numbers[0] as usize] = record.expect("a tariff");
+            }
+        }
+        if let Some(wrong) = wrong {
+            out.truncate(start);
+            out.extend_from_slice(wrong.as_bytes());
+        }
+    }
+
     /// A call to a desk whose marks have the fault, or whose ASK or CONFIRM.
     fn line_with_wrong_marks(
         &mut self,
@@ -181,12 +268,10 @@ impl WrongDesk {
         let fault = self.fault_of("marks").or(self.fault_of(call));
         let fault = fault.unwrap_or_default().to_string();
         let answer = String::from_utf8_lossy(&out[start..]).into_owned();
-        let refusal = answer.strip_prefix("refused ");
-        let refusal = refusal.and_then(|rest| rest.split_whitespace().next()?.parse().ok());
         let made = Made {
             call,
             numbers,
-            refusal: refusal.unwrap_or(0),
+            refusal: refusal_of(&answer),
             answer: &answer,
             before: &before,
             after: self.desk.book(),
@@ -863,10 +948,14 @@ fn wrong_numbers_by_region(fault: &str, record: &[u32; RECORD]) -> Option<[u32; 
 
 /// The answer that a desk with this book gives to a call.
 fn answer_of(book: Book, call: &str, numbers: &[u32]) -> Option<String> {
+    answer_of_line(book, &Named::line(None, call, numbers))
+}
+
+fn answer_of_line(book: Book, line: &[u8]) -> Option<String> {
     let mut desk = Desk::new();
     *desk.book_mut() = book;
     let mut answer = Vec::new();
-    desk.line(&call_line(call, numbers), &mut answer);
+    desk.line(line, &mut answer);
     String::from_utf8(answer).ok()
 }
 
@@ -875,11 +964,6 @@ fn is_call(line: &[u8]) -> bool {
     let mut answer = Vec::new();
     Desk::new().line(line, &mut answer);
     !answer.starts_with(b"error")
-}
-
-fn call_line(call: &str, numbers: &[u32]) -> Vec<u8> {
-    let numbers: Vec<_> = numbers.iter().map(u32::to_string).collect();
-    format!("{call} {}", numbers.join(" ")).into_bytes()
 }
 
 /// A trial of the period of one call and of the fields of another.
@@ -900,6 +984,7 @@ fn work(fault: &str) -> io::Result<ExitCode> {
         misjudged: (0, 0),
         undos: WrongUndos::default(),
         marks: WrongMarks::default(),
+        desks: WrongDesks::default(),
     };
     match fault {
         "it leaves at once" => return Ok(ExitCode::SUCCESS),

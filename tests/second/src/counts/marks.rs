@@ -11,11 +11,14 @@ pub(super) struct Mark {
     since: u32,
     /// What took the last mark, if nothing else has happened to the place since.
     taken_by: Option<&'static str>,
+    /// The desk that asked, if it was named.
+    asked_by: Option<u32>,
 }
 
 /// What leaves a mark as it is.
-const SINCE: [&str; 17] = [
+const SINCE: [&str; 18] = [
     "ask",
+    "a call refused 17",
     "a refused set",
     "a refused put",
     "a refused close",
@@ -163,6 +166,7 @@ impl Counts {
             ("confirm", 16) => self.not_marked(code, book),
             ("put" | "open" | "drop", 0) => self.mark_taken(call, place),
             ("put", 8) => self.since("a refused put", |other| other == place),
+            (_, 17) => self.since("a call refused 17", |other| other == place),
             ("close", 12) => self.since("a refused close", |other| other == place),
             _ => {}
         }
@@ -180,6 +184,7 @@ impl Counts {
         self.tally.one("ask ok of a draft without a mark");
         self.marks[place] = Mark {
             there: true,
+            asked_by: self.desk,
             ..Mark::default()
         };
     }
@@ -204,7 +209,14 @@ impl Counts {
 
     fn confirmed(&mut self, code: u32, values: &[u64]) {
         let place = code as usize - 1;
-        let Mark { there, since, .. } = self.marks[place];
+        let Mark {
+            there,
+            since,
+            asked_by,
+            ..
+        } = self.marks[place];
+        self.two_desks(asked_by);
+        self.opened_by(place);
         assert!(there, "a draft was confirmed without a mark");
         // SET clears the marks and ASK ends the chance, so the two are never there together.
         assert!(self.chance.is_none(), "a mark and a SET to take back");
@@ -227,6 +239,18 @@ impl Counts {
             taken_by: Some(CONFIRM),
             ..Mark::default()
         };
+    }
+
+    /// One desk has asked, and this one confirms.
+    fn two_desks(&mut self, asked_by: Option<u32>) {
+        let part = |desk| is_part(desk).then_some(desk).flatten();
+        self.tally.one(match (part(asked_by), part(self.desk)) {
+            (None, None) => return,
+            (None, Some(_)) => "ask by all fourteen, confirm by a part desk: ok",
+            (Some(_), None) => "ask by a part desk, confirm by all fourteen: ok",
+            (one, other) if one == other => "ask by a part desk, confirm by the same: ok",
+            _ => "ask by a part desk, confirm by another: ok",
+        });
     }
 
     fn not_marked(&mut self, code: u32, book: &Book) {

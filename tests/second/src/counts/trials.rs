@@ -82,6 +82,10 @@ impl Counts {
         if tried.fallen & self.confirmed > 0 {
             self.tally.one("trial: one that was confirmed would fall");
         }
+        if tried.fallen & self.opened_by_part > 0 {
+            let what = "trial: one that a part desk opened would fall";
+            self.tally.one(what);
+        }
         let mut after = book.clone();
         let set = after.set(year, month, t, fields);
         set.expect("a sheet that the trial accepts");
@@ -114,6 +118,13 @@ impl Counts {
         if drafts.any(|code| after.open(code).is_err()) {
             let what = "trial with a draft over the cap of its sheet";
             self.tally.one(what);
+        }
+    }
+
+    /// A call that was refused for the desk comes after a trial.
+    pub(super) fn trial_is_past(&mut self) {
+        if let Some(tried) = &mut self.tried {
+            tried.last = false;
         }
     }
 

@@ -8,6 +8,8 @@ use crate::sheet::PEAK_SHARE;
 #[derive(Clone, Copy)]
 pub(super) enum Last {
     Call(&'static str, u64),
+    /// One that was accepted from a desk without all fourteen.
+    OfPart(&'static str),
     NoCall,
     PassedOver,
 }
@@ -87,7 +89,11 @@ impl Counts {
     /// A call has been counted: what UNDO would meet now.
     pub(super) fn after_call(&mut self, call: &str, refusal: u64, chance: bool) {
         let call = static_name(call);
-        self.last = Some((Last::Call(call, refusal), chance));
+        let last = match refusal {
+            0 if is_part(self.desk) => Last::OfPart(call),
+            _ => Last::Call(call, refusal),
+        };
+        self.last = Some((last, chance));
         let changes = ["put", "open", "ask", "confirm", "close", "drop"].contains(&call);
         if changes && refusal == 0 {
             self.chance = None;
@@ -113,6 +119,9 @@ impl Counts {
                 Last::Call(call, 0) => count!(self, "{chance}, {call} ok, undo: {answer}"),
                 Last::Call(call, number) => {
                     count!(self, "{chance}, {call} refused {number}, undo: {answer}");
+                }
+                Last::OfPart(call) => {
+                    count!(self, "{chance}, {call} ok by a part desk, undo: {answer}");
                 }
                 Last::NoCall => count!(self, "{chance}, a line that is no call, undo: {answer}"),
                 Last::PassedOver => count!(self, "{chance}, a line passed over, undo: {answer}"),
@@ -153,6 +162,10 @@ impl Counts {
         }
         if back & self.confirmed > 0 {
             self.tally.one("undo: one that was confirmed comes back");
+        }
+        if back & self.opened_by_part > 0 {
+            self.tally
+                .one("undo: one that a part desk opened comes back");
         }
         for place in (0..PLACES).filter(|&place| back >> place & 1 == 1) {
             let record = self.records[place];

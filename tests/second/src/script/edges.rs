@@ -14,7 +14,8 @@ pub(super) fn nothing() -> Vec<u32> {
 
 /// Tries and sets every period in turn, and quotes in it. The tariff is a standing charge of one
 /// mill a day. The sheets that are set allow 31 mills a month, so it stays open; those that are
-/// tried allow 30, so that the days of the period decide.
+/// tried allow 30, so that the days of the period decide. Every other month it is the desk of its
+/// region that quotes.
 pub fn all_periods() -> Vec<u8> {
     let mut writer = Writer::plain_lines(0, usize::MAX);
     let sheet = |year, month, t, mills: u32| {
@@ -36,7 +37,11 @@ pub fn all_periods() -> Vec<u8> {
             for t in 1..=12 {
                 let _ = writer.trial(&sheet(year, month, t, 30));
                 writer.set(&sheet(year, month, t, 31));
+                if month % 2 == 0 {
+                    writer.whose = Whose::One(1 << 13);
+                }
                 writer.quote(1, 13, 1, &[0; 12][..t as usize]);
+                writer.whose = Whose::Unnamed;
             }
         }
     }

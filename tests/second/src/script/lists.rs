@@ -1,5 +1,8 @@
 //! All lists of up to four calls on one code: ASK, CONFIRM, OPEN, CLOSE, PUT, DROP, SET and UNDO in
 //! every order, from several beginnings. After each list stand calls that show what it left.
+//!
+//! And all lists of up to three such calls by two desks with a region each, one that has both, and
+//! the one with all fourteen.
 
 use std::ops::Range;
 
@@ -12,6 +15,7 @@ pub struct Beginning {
     calls: &'static [Begin],
     sheets: [Sheets; 2],
     standing: [u32; 2],
+    desks: bool,
 }
 
 #[derive(Clone, Copy)]
@@ -19,6 +23,8 @@ enum Begin {
     Set(Sheets),
     /// A flat tariff with this standing charge.
     Put(u32),
+    /// The same in these regions.
+    PutIn(u32, u32),
     Open,
     Ask,
 }
@@ -35,7 +41,7 @@ const AT_THE_CAP: u32 = 23_960;
 /// One within the cap of both sheets.
 const LOW: u32 = 23_000;
 
-use Begin::{Ask, Open, Put, Set};
+use Begin::{Ask, Open, Put, PutIn, Set};
 use Sheets::{Mild, Tight};
 
 pub const BEGINNINGS: [Beginning; 6] = [
@@ -44,50 +50,124 @@ pub const BEGINNINGS: [Beginning; 6] = [
         calls: &[Set(Mild), Put(AT_THE_CAP)],
         sheets: [Tight, Mild],
         standing: [AT_THE_CAP, LOW],
+        desks: false,
     },
     Beginning {
         name: "a marked draft",
         calls: &[Set(Mild), Put(LOW), Ask],
         sheets: [Mild, Tight],
         standing: [LOW, AT_THE_CAP],
+        desks: false,
     },
     Beginning {
         name: "an open tariff",
         calls: &[Set(Mild), Put(AT_THE_CAP), Open],
         sheets: [Tight, Mild],
         standing: [AT_THE_CAP, LOW],
+        desks: false,
     },
     Beginning {
         name: "a draft over the cap, and a sheet to take back",
         calls: &[Set(Mild), Put(AT_THE_CAP), Set(Tight)],
         sheets: [Mild, Tight],
         standing: [LOW, AT_THE_CAP],
+        desks: false,
     },
     Beginning {
         name: "a mark that a sheet cleared, which can be taken back",
         calls: &[Set(Mild), Put(LOW), Ask, Set(Mild)],
         sheets: [Tight, Mild],
         standing: [AT_THE_CAP, LOW],
+        desks: false,
     },
     Beginning {
         name: "a fresh book",
         calls: &[],
         sheets: [Mild, Tight],
         standing: [AT_THE_CAP, LOW],
+        desks: false,
+    },
+];
+
+/// The desk of region 0, that of region 1, and one that has both.
+const FIRST: u32 = 1;
+const SECOND: u32 = 2;
+const BOTH: u32 = FIRST | SECOND;
+
+/// The same for lists with desks.
+pub const BEGINNINGS_WITH_DESKS: [Beginning; 8] = [
+    Beginning {
+        name: "a draft of the one",
+        calls: &[Set(Mild), PutIn(FIRST, AT_THE_CAP)],
+        sheets: [Tight, Mild],
+        standing: [LOW, AT_THE_CAP],
+        desks: true,
+    },
+    Beginning {
+        name: "a marked draft of the one",
+        calls: &[Set(Mild), PutIn(FIRST, LOW), Ask],
+        sheets: [Mild, Tight],
+        standing: [LOW, AT_THE_CAP],
+        desks: true,
+    },
+    Beginning {
+        name: "an open tariff of the one",
+        calls: &[Set(Mild), PutIn(FIRST, AT_THE_CAP), Open],
+        sheets: [Tight, Mild],
+        standing: [AT_THE_CAP, LOW],
+        desks: true,
+    },
+    Beginning {
+        name: "a draft of both",
+        calls: &[Set(Mild), PutIn(BOTH, LOW)],
+        sheets: [Tight, Mild],
+        standing: [AT_THE_CAP, LOW],
+        desks: true,
+    },
+    Beginning {
+        name: "an open tariff of both",
+        calls: &[Set(Mild), PutIn(BOTH, AT_THE_CAP), Open],
+        sheets: [Tight, Mild],
+        standing: [AT_THE_CAP, LOW],
+        desks: true,
+    },
+    Beginning {
+        name: "a tariff of the one that fell, and the sheet to take back",
+        calls: &[Set(Mild), PutIn(FIRST, AT_THE_CAP), Open, Set(Tight)],
+        sheets: [Mild, Tight],
+        standing: [LOW, AT_THE_CAP],
+        desks: true,
+    },
+    Beginning {
+        name: "a mark of both that a sheet cleared, which can be taken back",
+        calls: &[Set(Mild), PutIn(BOTH, LOW), Ask, Set(Mild)],
+        sheets: [Tight, Mild],
+        standing: [AT_THE_CAP, LOW],
+        desks: true,
+    },
+    Beginning {
+        name: "a fresh book",
+        calls: &[],
+        sheets: [Mild, Tight],
+        standing: [AT_THE_CAP, LOW],
+        desks: true,
     },
 ];
 
 /// The lists of none to four of eight calls.
 pub const LISTS: usize = 1 + 8 + 64 + 512 + 4_096;
+/// The lists of none to three of 17 calls.
+pub const LISTS_WITH_DESKS: usize = 1 + 17 + 289 + 4_913;
 
-/// The calls of a list, each a number below 8.
-fn list(mut number: usize) -> Vec<usize> {
+/// The calls of a list, each a number below so many.
+fn list(mut number: usize, calls: usize) -> Vec<usize> {
     let mut length = 0;
-    while number >= 8usize.pow(length) {
-        number -= 8usize.pow(length);
+    while number >= calls.pow(length) {
+        number -= calls.pow(length);
         length += 1;
     }
-    (0..length).map(|place| number >> (3 * place) & 7).collect()
+    let call = |place: u32| number / calls.pow(place) % calls;
+    (0..length).map(call).collect()
 }
 
 impl Beginning {
@@ -101,8 +181,13 @@ impl Beginning {
             for &call in self.calls {
                 writer.begin(call);
             }
-            writer.list(self, &list(number));
-            writer.show();
+            if self.desks {
+                writer.list_with_desks(self, &list(number, 17));
+                writer.show_with_desks();
+            } else {
+                writer.list(self, &list(number, 8));
+                writer.show();
+            }
             writer.close(1);
             writer.drop_code(1);
             count += 1;
@@ -125,8 +210,9 @@ impl Writer {
                 dated.fields[SMNCC] = 480_000;
                 self.set(&dated);
             }
-            Put(standing) => {
-                let mut record = record_of(1, 1, standing, ALL_REGIONS, 3);
+            Put(standing) => self.begin(PutIn(ALL_REGIONS, standing)),
+            PutIn(regions, standing) => {
+                let mut record = record_of(1, 1, standing, regions, 3);
                 record[5] = 18_000;
                 self.put(1, &record);
             }
@@ -158,6 +244,52 @@ impl Writer {
     /// CONFIRM is for a mark that has come back.
     fn show(&mut self) {
         self.quote(1, 0, 1, &[0, 0, 0]);
+        self.confirm(1);
+        self.undo();
+        self.confirm(1);
+        self.call("benchmark", &[0, 0, 1, 0]);
+    }
+
+    fn list_with_desks(&mut self, beginning: &Beginning, calls: &[usize]) {
+        let (mut sheets, mut standing) = (
+            beginning.sheets.into_iter().cycle(),
+            beginning.standing.into_iter().cycle(),
+        );
+        for call in calls {
+            let desk = match call {
+                0..=5 | 16 => Some(FIRST),
+                6..=11 => Some(SECOND),
+                12 => Some(BOTH),
+                _ => None,
+            };
+            self.whose = desk.map_or(Whose::Unnamed, Whose::One);
+            match call {
+                0 | 6 | 12 => self.ask(1),
+                1 | 7 => self.confirm(1),
+                2 | 8 => self.open(1),
+                3 | 9 => self.close(1),
+                4 | 10 => self.drop_code(1),
+                5 | 11 | 13 => {
+                    let standing = standing.next().expect("no end of them");
+                    self.begin(PutIn(desk.unwrap_or(BOTH), standing));
+                }
+                16 => self.begin(PutIn(BOTH, LOW)),
+                14 => self.undo(),
+                _ => self.begin(Set(sheets.next().expect("no end of them"))),
+            }
+            self.whose = Whose::Unnamed;
+        }
+    }
+
+    /// The same as `show`, and which desk's tariff it is.
+    fn show_with_desks(&mut self) {
+        for desk in [FIRST, SECOND] {
+            self.whose = Whose::One(desk);
+            self.quote(1, 0, 1, &[0, 0, 0]);
+            self.quote(1, 1, 1, &[0, 0, 0]);
+        }
+        self.undo();
+        self.whose = Whose::Unnamed;
         self.confirm(1);
         self.undo();
         self.confirm(1);

@@ -24,8 +24,7 @@ impl Writer {
     /// A marked draft's code, most of the time, if there is one.
     pub(super) fn code_to_confirm(&mut self) -> u32 {
         let start = self.random.between(0, 31);
-        let mut codes = (0..32).map(|i| (start + i) % 32 + 1);
-        match codes.find(|&code| self.book.is_marked(code)) {
+        match self.code_from(start, |book, code| book.is_marked(code)) {
             Some(code) if !self.random.one_in(3) => code,
             _ => self.code_in(State::Draft, 4),
         }
@@ -84,7 +83,7 @@ impl Writer {
     }
 
     /// Something between the ASK of a code and its CONFIRM.
-    fn between(&mut self, code: u32) {
+    pub(super) fn between(&mut self, code: u32) {
         let Some(record) = self.used_record(code) else {
             return;
         };
@@ -134,7 +133,7 @@ impl Writer {
     }
 
     /// A sheet that is taken back, and now and then another one before it that is not.
-    fn set_and_undo(&mut self) {
+    pub(super) fn set_and_undo(&mut self) {
         for _ in 0..self.random.pick(&[1, 1, 1, 2]) {
             let dated = self.other_sheet();
             self.set(&dated);

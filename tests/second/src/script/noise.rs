@@ -4,10 +4,10 @@ use super::*;
 
 impl Writer {
     pub(super) fn noise(&mut self) {
-        if !self.random.one_in(30) {
+        if !self.random.one_in(24) {
             return;
         }
-        let line = match self.random.below(24) {
+        let line = match self.random.below(if self.desks { 31 } else { 24 }) {
             0 => b"".to_vec(),
             1 => b"\r".to_vec(),
             2 => b"     ".to_vec(),
@@ -18,14 +18,80 @@ impl Writer {
             13..=21 => self.wrong_count(),
             22 if self.random.one_in(2) => self.minus_sign(),
             22 => self.junk(),
-            _ if self.random.one_in(3) => self.long_line(),
-            _ => b"#".to_vec(),
+            23 if self.random.one_in(3) => self.long_line(),
+            23 => b"#".to_vec(),
+            _ => self.no_call_by_a_desk(),
         };
         self.line(&line);
     }
 
+    /// A line that begins with `desk` and is no call.
+    pub(super) fn no_call_by_a_desk(&mut self) -> Vec<u8> {
+        const NO_DESK: [&[u8]; 20] = [
+            b"desk",
+            b"   desk   ",
+            b"desk open 1",
+            b"desk undo",
+            b"desk desk 3 open 1",
+            b"desk # open 1",
+            b"desk x open 1",
+            b"desk -1 open 1",
+            b"desk +1 open 1",
+            b"desk 1.5 open 1",
+            b"desk 0x3 open 1",
+            b"desk 3# open 1",
+            b"desk 4294967296 open 1",
+            b"desk 04294967296 open x",
+            b"desk 18446744073709551619 open 1",
+            b"desk 3\r open 1",
+            b"desk 3\topen 1",
+            b"desk x",
+            b"desk 4294967296",
+            b"desk x xs",
+        ];
+        const NO_CALL: [&[u8]; 6] = [
+            b"",
+            b" ",
+            b" desk",
+            b" desk 3 open 1",
+            b" desk x open 1",
+            b" 3 open 1",
+        ];
+        const COMMENTS: [&[u8]; 4] = [b" #", b" # open 1", b" #open 1", b" # desk 3 open 1"];
+        let desk = self.desk_to_write();
+        let behind = match self.random.below(16) {
+            0..=2 => return self.random.pick(&NO_DESK).to_vec(),
+            3..=4 => self.random.pick(&NO_CALL).to_vec(),
+            5 => self.random.pick(&COMMENTS).to_vec(),
+            6..=7 => [b" ", &self.unknown_call()[..]].concat(),
+            8..=10 => [b" ", &self.not_a_number()[..]].concat(),
+            11..=14 => [b" ", &self.wrong_count()[..]].concat(),
+            _ => {
+                let long = self.long_line();
+                let mut line = [&desk[..], b" ", &long].concat();
+                line.truncate(long.len());
+                return line;
+            }
+        };
+        [desk, behind].concat()
+    }
+
+    /// `desk` and a number.
+    fn desk_to_write(&mut self) -> Vec<u8> {
+        let desk = match self.random.below(3) {
+            0 => self.random.pick(&[0, ALL_REGIONS, u32::MAX]),
+            _ => self.random.between(0, 2 * ALL_REGIONS),
+        };
+        format!("desk {desk}").into_bytes()
+    }
+
     pub(super) fn unknown_call(&mut self) -> Vec<u8> {
-        const WORDS: [&[u8]; 31] = [
+        const WORDS: [&[u8]; 36] = [
+            b"DESK 3 open 1",
+            b"desks 3 open 1",
+            b"des 3 open 1",
+            b"desk3 open 1",
+            b"desk\t3 open 1",
             b"SET 2023 10 3",
             b"TRIAL 2023 10 3",
             b"trials 2023 10 3",

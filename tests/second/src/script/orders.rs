@@ -33,6 +33,11 @@ impl Writer {
         }
     }
 
+    pub(super) fn two_faults_of_a_sheet(&mut self) {
+        let call = self.random.pick(&["set", "trial"]);
+        self.sheet_with_two_faults(call);
+    }
+
     fn sheet_with_two_faults(&mut self, call: &str) {
         let (first, second) = self.random.pick(&SHEET_FAULTS);
         let mut dated = reference();

@@ -87,6 +87,7 @@ impl Writer {
             3 => 1 << self.region(),
             _ => self.random.between(1, ALL_REGIONS),
         };
+        let regions = self.regions_within(regions);
         (regions, self.random.pick(&[1, 2, 3, 3, 3]))
     }
 

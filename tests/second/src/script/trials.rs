@@ -31,7 +31,8 @@ impl Writer {
     /// The SET of the sheet that was tried, unless it would end the while without a sheet, and
     /// a look at what fell.
     pub(super) fn same_set(&mut self, dated: &Dated, answer: Result<u32, Refusal>) {
-        if answer.is_ok() && self.calls < self.bare {
+        // A trial that is outside the desk does not tell.
+        if self.calls < self.bare && self.book.trial_dated(dated).is_ok() {
             return;
         }
         self.set(dated);

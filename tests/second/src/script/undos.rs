@@ -125,7 +125,7 @@ impl Writer {
     }
 
     /// A code outside 1 to 32, or one whose place is in any state.
-    fn any_code(&mut self) -> u32 {
+    pub(super) fn any_code(&mut self) -> u32 {
         match self.random.below(4) {
             0 => self.bad_code(),
             1 => self.code_in(State::Empty, 1_000),
@@ -151,7 +151,7 @@ impl Writer {
     }
 
     /// A call of any kind, taken or refused, or a line that is no call.
-    fn any_call(&mut self) {
+    pub(super) fn any_call(&mut self) {
         let code = self.any_code();
         match self.random.below(13) {
             0 => {
@@ -216,12 +216,13 @@ impl Writer {
     }
 
     pub(super) fn no_call(&mut self) {
-        let line = match self.random.below(5) {
+        let line = match self.random.below(if self.desks { 6 } else { 5 }) {
             0 => b"# undo".to_vec(),
             1 => b"undo 1".to_vec(),
             2 => self.unknown_call(),
             3 => self.not_a_number(),
-            _ => self.wrong_count(),
+            4 => self.wrong_count(),
+            _ => self.no_call_by_a_desk(),
         };
         self.line(&line);
     }

@@ -1,0 +1,4 @@
+pub mod OpenAnswers
+pub mod TrialAnswers
+pub mod Demand3
+pub mod Traced

@@ -1,0 +1,82 @@
+-- The answer of QUOTE by the checks that the code makes.
+-- Assumes nothing.
+use mathlib.Core.Path.{_≡_, refl, sym, _∙_, ap}
+use mathlib.Core.Bool.{Bool, true, false, _&&_}
+use mathlib.Core.List.{List}
+use Prim.Native.Nat.{ℕ, suc}
+use lib.ListN.{getD}
+use Rattle.refusal.specs.declared.Check.{Check}
+use Rattle.refusal.specs.declared.Check.the-variants.{Pass}
+use Rattle.refusal.specs.Checks.{unless, first, checked, need, given}
+use Rattle.refusal.proofs.Checks.{need-checked}
+use Rattle.benchmark.specs.declared.Benchmarks.{Benchmarks}
+use Rattle.tariff.specs.declared.Tariff.{Tariff}
+use Rattle.desks.specs.Desks.{mayUse}
+use Rattle.book.specs.declared.State.{State}
+use Rattle.book.specs.declared.State.the-variants.{Empty, Draft, Marked, Open}
+use Rattle.book.specs.declared.Place.{Place}
+use Rattle.book.specs.declared.Book.{Book}
+use Rattle.book.specs.Calls.{Sheet}
+use Rattle.book.specs.Checks.{inside, mayUseHeld}
+use Rattle.book.specs.Book.{tariffIn, beyond, heldIn, sheetIf, sheetIn, inForce, Reachable}
+use Rattle.book.specs.Settling.{emptyCheck, heldCheck, HasPlace}
+use Rattle.book.proofs.Steps.{read-there}
+use Rattle.queries.specs.Queries.{Telling, refused, quotation}
+use Rattle.quoting.specs.Quote.{cellAllowed, monthsAllowed, quotationIn, quoteOf}
+use Rattle.queries.proofs.InForce.{months-are}
+
+-- 13 and then 17, of a tariff
+behind-13 : (t m : Bool) (told : Telling) → need refused t 13 (need refused m 17 told) ≡ checked refused (first (unless t 13 Pass) (unless m 17 Pass)) told
+behind-13 true m told = need-checked refused m 17 told
+behind-13 false m told = refl
+
+-- 6, 9, 10, 13 and 17
+module _ (desk : ℕ) (test : Sheet → Tariff → Bool) (told : Sheet → Tariff → Telling) where
+  abbrev testing : Sheet → Tariff → Check
+  testing s x = first (unless (test s x) 13 Pass) (unless (mayUse desk (x .regions)) 17 Pass)
+
+  quote-table : (t : Bool) (q : State) (x : Tariff) (l : Bool) (s : Sheet)
+      → need refused t 6 (given refused (heldIn q x) 9 (λ h. given refused (sheetIf l s) 10 (λ d. need refused (test d (h .tariff)) 13 (need refused (mayUseHeld desk h) 17 (told d (h .tariff))))))
+      ≡ checked refused (first (unless t 6 Pass) (first (emptyCheck q) (first (unless l 10 Pass) (testing s x)))) (told s x)
+  quote-table false q x l s = refl
+  quote-table true Empty x l s = refl
+  quote-table true Draft x false s = refl
+  quote-table true Draft x true s = behind-13 (test s x) (mayUse desk (x .regions)) (told s x)
+  quote-table true Marked x false s = refl
+  quote-table true Marked x true s = behind-13 (test s x) (mayUse desk (x .regions)) (told s x)
+  quote-table true Open x false s = refl
+  quote-table true Open x true s = behind-13 (test s x) (mayUse desk (x .regions)) (told s x)
+
+-- with the months that the book has beside its sheet
+behind-10 : (l : Bool) (c d : Check) → (l ≡ true → c ≡ d) → first (unless l 10 Pass) c ≡ first (unless l 10 Pass) d
+behind-10 true c d h = h refl
+behind-10 false c d h = refl
+
+-- 13 and 17 as the code tests them: the tariff of a place, in a cell, with months of which there are to be t
+abbrev pub quoteCheck : (desk t : ℕ) → Place → ℕ → ℕ → List ℕ → Check
+quoteCheck desk t p r m months =
+    first (unless (cellAllowed (tariffIn p) r m && monthsAllowed t months) 13 Pass) (unless (mayUse desk (p .regions)) 17 Pass)
+
+quote-answer : (desk : ℕ) (b : Book) → Reachable b → (k r m : ℕ) (months : List ℕ) (at : ℕ) → (inside k ≡ true → suc at ≡ k)
+    → let p = getD (b .places) at beyond in
+    quoteOf b desk k r m months
+    ≡ checked refused (heldCheck k (p .state) (first (unless (b .loaded) 10 Pass) (quoteCheck desk (b .benchmarks .months) p r m months)))
+    (quotation (quotationIn (sheetIn b) (tariffIn p) r m months))
+unfolding quoteOf
+quote-answer desk b from k r m months at index =
+    let p = getD (b .places) at beyond in
+    read-there b k at p index refl refused
+    (λ o. given refused o 9 (λ h. given refused (inForce b) 10 (λ s. need refused (cellAllowed (h .tariff) r m && monthsAllowed (s .period .months) months) 13 (need refused (mayUseHeld desk h) 17 (quotation (quotationIn s (h .tariff) r m months))))))
+    ∙ quote-table desk (λ s x. cellAllowed x r m && monthsAllowed (s .period .months) months) (λ s x. quotation (quotationIn s x r m months)) (inside k) (p .state) (tariffIn p) (b .loaded) (sheetIn b)
+    ∙ ap (λ c. checked refused (heldCheck k (p .state) c) (quotation (quotationIn (sheetIn b) (tariffIn p) r m months)))
+    (behind-10 (b .loaded) _ _ (λ l. ap (λ t. quoteCheck desk t p r m months) (sym (months-are b from l))))
+
+-- the same for the place that a book has at the index of the code
+pub quote-there : {b : Book} {k i : ℕ} {p : Place} {loaded : Bool} {f : Benchmarks} → HasPlace b k i p loaded f → (desk r m : ℕ) (months : List ℕ)
+    → quoteOf b desk k r m months
+    ≡ checked refused (heldCheck k (p .state) (first (unless loaded 10 Pass) (quoteCheck desk (f .months) p r m months)))
+    (quotation (quotationIn (sheetIn b) (tariffIn p) r m months))
+quote-there {b} {k} {i} h desk r m months =
+    quote-answer desk b (h .reachable) k r m months i (h .index)
+    ∙ (λ j. checked refused (heldCheck k (h .place j .state) (first (unless (h .is-loaded j) 10 Pass) (quoteCheck desk (h .has-figures j .months) (h .place j) r m months)))
+    (quotation (quotationIn (sheetIn b) (tariffIn (h .place j)) r m months)))

@@ -8,7 +8,8 @@ use borrow.Author.Tests.{eqb-true, lt-ltb}
 use Rattle.laws.specs.Notions.{every, bit}
 use Rattle.laws.proofs.Every.{and-left, and-right, and-both, every-at}
 use Rattle.tariff.specs.declared.Tariff.{Tariff}
-use Rattle.desks.specs.Desks.{allFourteen, isFull, isDesk, inDesk, covers, mayUse}
+use Rattle.tariff.specs.Tariff.{allFourteen}
+use Rattle.desks.specs.Desks.{isFull, isDesk, inDesk, covers, mayUse}
 use Rattle.verdict.specs.Cells.{Cell, offered, Offered}
 
 -- the desk with all fourteen covers all

@@ -9,8 +9,8 @@ use lib.Dec.{leb, ltb}
 use lib.IntN.{ℤ}
 use Rattle.refusal.specs.Checks.{checked, need, given}
 use Rattle.benchmark.specs.Benchmark.{benchmark, setCheck}
-use Rattle.tariff.specs.Tariff.{recordCheck}
-use Rattle.desks.specs.Desks.{allFourteen, inDesk}
+use Rattle.tariff.specs.Tariff.{recordCheck, allFourteen}
+use Rattle.desks.specs.Desks.{inDesk}
 use Rattle.verdict.specs.Cells.{Cell, cellCount, verdict}
 use Rattle.book.specs.declared.Book.{Book}
 use Rattle.book.specs.Calls.{Act, SET, PUT, OPEN, CLOSE, DROP, UNDO, ASK, CONFIRM, by, Answer, accepted, cells, refused, over, refusalNumber}

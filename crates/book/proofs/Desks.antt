@@ -9,7 +9,8 @@ use Rattle.refusal.specs.declared.Check.{Check}
 use Rattle.refusal.specs.declared.Check.the-variants.{Pass, Refuse}
 use Rattle.refusal.specs.Checks.{unless, need}
 use Rattle.refusal.proofs.Checks.{unless-passes}
-use Rattle.desks.specs.Desks.{allFourteen, isFull}
+use Rattle.tariff.specs.Tariff.{allFourteen}
+use Rattle.desks.specs.Desks.{isFull}
 use Rattle.book.specs.declared.Book.{Book}
 use Rattle.book.specs.Calls.{Act, by, Answer, refused}
 use Rattle.book.specs.Checks.{answer}

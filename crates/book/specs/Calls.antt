@@ -6,7 +6,7 @@ use mathlib.Core.Option.{Option, none, some}
 use Prim.Native.Nat.{ℕ}
 use lib.IntN.{ℤ}
 use Rattle.calendar.specs.declared.Period.{Period}
-use Rattle.desks.specs.Desks.{allFourteen}
+use Rattle.tariff.specs.Tariff.{allFourteen}
 use Rattle.verdict.specs.Cells.{Cell}
 
 -- the numbers handed in, of any count and content: a sheet with its period, a tariff's record

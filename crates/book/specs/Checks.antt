@@ -50,28 +50,28 @@ verdictAnswer (verdicts.over c months e) = over c months e
 
 -- 17, "outside the desk": of a call on a code, its tariff is not offered in the desk's regions alone. PUT "looks at the old draft and the new
 -- tariff"
-abbrev pub mayUseHeld : ℕ → Holding → Bool
+abbrev pub mayUseHeld : (desk : ℕ) → Holding → Bool
 mayUseHeld desk h = mayUse desk (h .tariff .regions)
 
-abbrev pub coversDraft : ℕ → Option Holding → Bool
+abbrev pub coversDraft : (desk : ℕ) → Option Holding → Bool
 coversDraft desk none = true
 coversDraft desk (some h) = covers desk (h .tariff .regions)
 
-abbrev pub mayPut : ℕ → Option Holding → Record → Bool
+abbrev pub mayPut : (desk : ℕ) → Option Holding → Record → Bool
 mayPut desk held x = isFull desk || (coversDraft desk held && covers desk (tariffOf x .regions))
 
 -- SET: 17: "Only a desk with all fourteen". 1 to 4, 14 and 5
-abbrev pub setAnswer : ℕ → Sheet → Answer
+abbrev pub setAnswer : (desk : ℕ) → Sheet → Answer
 setAnswer desk s = need refused (isFull desk) 17 (checked refused (setCheck (s .fields) (s .period)) accepted)
 
 -- PUT. 6: code outside 1 to 32. 7: the place is open. 8: not such a record. 17
-abbrev pub putAnswer : ℕ → ℕ → Option Holding → Record → Answer
+abbrev pub putAnswer : (desk k : ℕ) → Option Holding → Record → Answer
 putAnswer desk k held x =
     need refused (inside k) 6
     (need refused (not (isOpen held)) 7 (checked refused (recordCheck x) (need refused (mayPut desk held x) 17 accepted)))
 
 -- OPEN, and ASK, which "does the checks of OPEN, with its refusals". 6. 9: the place is empty. 17. 7. 10: no sheet. 11
-abbrev pub openAnswer : ℕ → ℕ → Option Holding → Option Sheet → Answer
+abbrev pub openAnswer : (desk k : ℕ) → Option Holding → Option Sheet → Answer
 openAnswer desk k held sheet =
     need refused (inside k) 6
     (given refused held 9
@@ -79,21 +79,21 @@ openAnswer desk k held sheet =
     (need refused (not (h .isOpen)) 7 (given refused sheet 10 (λ s. verdictAnswer (verdict (figuresOf s) (h .tariff)))))))
 
 -- CLOSE. 6. 9. 17. 12: not open
-abbrev pub closeAnswer : ℕ → ℕ → Option Holding → Answer
+abbrev pub closeAnswer : (desk k : ℕ) → Option Holding → Answer
 closeAnswer desk k held =
     need refused (inside k) 6 (given refused held 9 (λ h. need refused (mayUseHeld desk h) 17 (need refused (h .isOpen) 12 accepted)))
 
 -- DROP. 6. 9. 17. 7
-abbrev pub dropAnswer : ℕ → ℕ → Option Holding → Answer
+abbrev pub dropAnswer : (desk k : ℕ) → Option Holding → Answer
 dropAnswer desk k held =
     need refused (inside k) 6 (given refused held 9 (λ h. need refused (mayUseHeld desk h) 17 (need refused (not (h .isOpen)) 7 accepted)))
 
 -- UNDO. 17, as of SET. 15: nothing to take back
-abbrev pub undoAnswer : ℕ → Bool → Answer
+abbrev pub undoAnswer : (desk : ℕ) → Bool → Answer
 undoAnswer desk mayUndo = need refused (isFull desk) 17 (need refused mayUndo 15 accepted)
 
 -- CONFIRM. 6. 9. 17. 7. 16: the draft is not marked. "Both answer the number of cells, as OPEN does"
-abbrev pub confirmAnswer : ℕ → ℕ → Option Holding → Answer
+abbrev pub confirmAnswer : (desk k : ℕ) → Option Holding → Answer
 confirmAnswer desk k held =
     need refused (inside k) 6
     (given refused held 9
@@ -101,7 +101,7 @@ confirmAnswer desk k held =
     (need refused (not (h .isOpen)) 7 (need refused (h .isMarked) 16 (cells (cellCount (h .tariff)))))))
 
 -- the answer that the checks of a desk's call give for such readings
-abbrev pub answer : ℕ → Readings → Act → Answer
+abbrev pub answer : (desk : ℕ) → Readings → Act → Answer
 answer desk r (SET s) = setAnswer desk s
 answer desk r (PUT k x) = putAnswer desk k (r .held k) x
 answer desk r (OPEN k) = openAnswer desk k (r .held k) (r .sheet)

@@ -1,6 +1,6 @@
 // Desks: a desk is a set of regions, bits as in a tariff, and refusal 17 is what it meets outside them.
 // Promise: each function equals its definition in specs/Desks.antt, for every number in place of a desk. What the layer above may use: the
-// three checks of 17, and `ALL_FOURTEEN`, the desk that nothing is refused to.
+// three checks of 17. A desk with all fourteen regions, `tariff::ALL_FOURTEEN`, is refused nothing.
 ghost use mathlib.Core.Path.{_≡_};
 ghost use mathlib.Core.Bool.{not, _||_};
 ghost use Prim.Native.Nat.{_<_};
@@ -9,9 +9,7 @@ ghost use Rattle.refusal.specs.declared.Check.the-variants.{Pass};
 ghost use Rattle.refusal.specs.Checks.{unless};
 ghost use Rattle.desks.specs.Desks.{isFull, isDesk, inDesk, covers, mayUse, mayQuery};
 use refusal::Check;
-
-// All fourteen regions, bits 0 to 13.
-pub const ALL_FOURTEEN: u32 = 16383;
+use tariff::ALL_FOURTEEN;
 
 // Whether the desk has all fourteen.
 fn is_full(desk: u32) -> bool

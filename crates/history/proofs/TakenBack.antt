@@ -4,7 +4,7 @@
 use mathlib.Core.Path.{_≡_, refl, _∙_, ap}
 use mathlib.Core.Bool.{true, cond}
 use mathlib.Core.List.{List, [], _∷_, _++_}
-use Rattle.desks.specs.Desks.{allFourteen}
+use Rattle.tariff.specs.Tariff.{allFourteen}
 use Rattle.book.specs.Calls.{Sheet, Act, SET, UNDO, Call, call, isAccepted}
 use Rattle.book.specs.Checks.{setAnswer}
 use Rattle.history.specs.History.{effective, noted, logAfter, acceptedOf}

@@ -10,7 +10,7 @@ use lib.ListN.{length, getD, take, drop, drop-of-length-le, length-drop}
 use lib.Seq.{drop-drop, getD-drop}
 use borrow.Author.Tests.{eq-eqb, ne-eqb, leb-true, eqb-true}
 use Rattle.bytes.specs.Bytes.{indexOf}
-use Rattle.desks.specs.Desks.{allFourteen}
+use Rattle.tariff.specs.Tariff.{allFourteen}
 use Rattle.lines.specs.declared.Number.the-variants.{Value, Not}
 use Rattle.lines.specs.declared.Numbers.the-variants.{All, Bad}
 use Rattle.lines.specs.Words.{parts, notEmpty, words, wordIn, spaces}

@@ -9,9 +9,9 @@ ghost use lib.ListN.{length, getD, take, drop};
 ghost use Rattle.lines.specs.Words.{words};
 ghost use Rattle.request.specs.declared.Word.{Word};
 ghost use Rattle.request.specs.Requests.{calls, nameOf, arity, rightCount, FormOf, named, namesDesk, callIn, deskLine, requestOf, Standing, StandingFor};
-use desks::ALL_FOURTEEN;
 use lines::Number;
 use lines::Numbers;
+use tariff::ALL_FOURTEEN;
 
 // The calls that may change the place of a code.
 pub enum CodeStep {

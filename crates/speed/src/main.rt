@@ -13,10 +13,10 @@ use book::Book;
 use book::Reply;
 use calendar::Period;
 use codes::CodeAct;
-use desks::ALL_FOURTEEN;
 use libc::STDOUT_FILENO;
 use queries::Told;
 use sheet::FIELD_COUNT;
+use tariff::ALL_FOURTEEN;
 use tariff::RECORD_LENGTH;
 
 // The reference sheet, with network costs lower by 1,000,000 in the last region.
@@ -187,7 +187,7 @@ fn tiered(k: u32, standing: u32) -> [u32; RECORD_LENGTH]
         1,
         4,
         standing + k,
-        16_383,
+        ALL_FOURTEEN,
         3,
         18_600 + k,
         18_000 + k,
@@ -211,7 +211,7 @@ fn mixed(k: u32) -> [u32; RECORD_LENGTH]
             1,
             2,
             10_000 + k,
-            16_383,
+            ALL_FOURTEEN,
             3,
             18_600 + k,
             18_000 + k,
@@ -226,7 +226,7 @@ fn mixed(k: u32) -> [u32; RECORD_LENGTH]
             2,
             2,
             10_000 + k,
-            16_383,
+            ALL_FOURTEEN,
             3,
             17_000 + k,
             12_000 + k,
@@ -241,7 +241,7 @@ fn mixed(k: u32) -> [u32; RECORD_LENGTH]
             3,
             3,
             10_000 + k,
-            16_383,
+            ALL_FOURTEEN,
             3,
             17_000 + k,
             11_000 + k,

@@ -12,9 +12,9 @@ use Rattle.verdict.specs.Cells.{cellCount}
 use Rattle.book.specs.declared.State.the-variants.{Marked, Open}
 use Rattle.book.specs.declared.Place.{Place}
 use Rattle.book.specs.declared.Book.{Book}
-use Rattle.book.specs.Calls.{OPEN, ASK, CONFIRM, by, Answer, cells, refused, isAccepted}
+use Rattle.book.specs.Calls.{OPEN, ASK, CONFIRM, by, cells, refused, isAccepted}
 use Rattle.book.specs.Checks.{confirmAnswer, answer}
-use Rattle.book.specs.Book.{nothingKept, tariffIn, withState, placeOf, setPlace, held, inForce, bookReadings, withPlaces, changed, Effect, step, Reachable}
+use Rattle.book.specs.Book.{nothingKept, tariffIn, withState, placeOf, setPlace, held, inForce, bookReadings, withPlaces, changed, step, Reachable}
 use Rattle.book.proofs.Places.{code-range, at-set}
 use Rattle.book.proofs.Accepted.{Opens, open-accepted}
 use Rattle.book.proofs.Steps.{made}
@@ -60,26 +60,11 @@ module _ (desk : ℕ) (b : Book) (from : Reachable b) (k : ℕ) where
 
   confirm-opens : askedThenConfirmed desk b k ≡ step b (by desk (OPEN k))
   unfolding step
-  confirm-opens = go (isAccepted a) refl
+  confirm-opens = go (isAccepted (answer desk (bookReadings b) (OPEN k))) refl
     where
-      a : Answer
-      a = answer desk (bookReadings b) (OPEN k)
-
-      -- what ASK comes to, and then CONFIRM, by whether the checks accept
-      asked : Bool → Effect
-      asked t = record { answer = a; book = cond t marked b }
-
-      then-confirmed : Bool → Effect
-      then-confirmed t = cond t (step (asked t .book) (by desk (CONFIRM k))) (asked t)
-
-      go : (t : Bool) → isAccepted a ≡ t → askedThenConfirmed desk b k ≡ step b (by desk (OPEN k))
-      go true e =
-          let books = made marked (by desk (CONFIRM k)) a (confirmed e) e ∙ left e ∙ sym (made b (by desk (OPEN k)) a refl e) in
-          let both : then-confirmed true ≡ step b (by desk (OPEN k)) = λ i. record { answer = confirmed e i; book = books i } in
-          ap then-confirmed e ∙ both
-      go false e =
-          let none : then-confirmed false ≡ step b (by desk (OPEN k)) = λ i. record { answer = a; book = cond (sym e i) (changed b (OPEN k)) b } in
-          ap then-confirmed e ∙ none
+      go : (t : Bool) → isAccepted (answer desk (bookReadings b) (OPEN k)) ≡ t → askedThenConfirmed desk b k ≡ step b (by desk (OPEN k))
+      go true e = rw e (λ i. record { answer = confirmed e i; book = (made marked (by desk (CONFIRM k)) _ (confirmed e) e ∙ left e) i })
+      go false e = rw e refl
 
 pub two-roads : (desk : ℕ) (b : Book) → Reachable b → (k : ℕ) → TwoRoads desk b k
 unfolding step

@@ -12,7 +12,7 @@ use Rattle.laws.specs.Notions.{every, sum, bit}
 use Rattle.laws.proofs.Every.{and-left, and-right, every-at}
 use Rattle.shares.specs.Shares.{wholeShare}
 use Rattle.tariff.specs.declared.Tariff.{Tariff}
-use Rattle.tariff.specs.Tariff.{rateMost, standingMost, stepMost, standingIn, ratesWithin, zeroFrom, within, rising, singleRegister, economy7, multiRegister, validKind, regionFits, validTariff}
+use Rattle.tariff.specs.Tariff.{allFourteen, rateMost, standingMost, stepMost, standingIn, ratesWithin, zeroFrom, within, rising, singleRegister, economy7, multiRegister, validKind, regionFits, validTariff}
 
 -- the parts of joined tests that hold
 three : (a b c : Bool) → (a && b && c) ≡ true → (a ≡ true) × (b ≡ true) × (c ≡ true)
@@ -32,17 +32,17 @@ between low a high e = (leb-true low a (and-left (leb low a) (leb a high) e), le
 
 parts : (x : Tariff) → validTariff x ≡ true
     → (leb (x .standing) standingMost ≡ true)
-    × ((leb 1 (x .regions) && leb (x .regions) 16383) ≡ true)
+    × ((leb 1 (x .regions) && leb (x .regions) allFourteen) ≡ true)
     × ((leb 1 (x .methods) && leb (x .methods) 3) ≡ true)
     × (ratesWithin (x .rates) ≡ true)
     × (every 14 (regionFits x) ≡ true)
     × (validKind x ≡ true)
 unfolding validTariff
 parts x v =
-    six (leb (x .standing) standingMost) (leb 1 (x .regions) && leb (x .regions) 16383) (leb 1 (x .methods) && leb (x .methods) 3) (ratesWithin (x .rates)) (every 14 (regionFits x)) (validKind x) v
+    six (leb (x .standing) standingMost) (leb 1 (x .regions) && leb (x .regions) allFourteen) (leb 1 (x .methods) && leb (x .methods) 3) (ratesWithin (x .rates)) (every 14 (regionFits x)) (validKind x) v
 
-pub valid-regions : (x : Tariff) → validTariff x ≡ true → (1 ≤ x .regions) × (x .regions ≤ 16383)
-valid-regions x v = between 1 (x .regions) 16383 (parts x v .1)
+pub valid-regions : (x : Tariff) → validTariff x ≡ true → (1 ≤ x .regions) × (x .regions ≤ allFourteen)
+valid-regions x v = between 1 (x .regions) allFourteen (parts x v .1)
 
 pub valid-methods : (x : Tariff) → validTariff x ≡ true → (1 ≤ x .methods) × (x .methods ≤ 3)
 valid-methods x v = between 1 (x .methods) 3 (parts x v .2)

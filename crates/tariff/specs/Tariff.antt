@@ -23,6 +23,10 @@ standingMost = 1000000
 abbrev pub stepMost : ℕ
 stepMost = 9999
 
+-- all fourteen regions, bits 0 to 13
+abbrev pub allFourteen : ℕ
+allFourteen = 16383
+
 -- M-104: "A tariff becomes 27 numbers"
 abbrev pub recordLength : ℕ
 recordLength = 27
@@ -92,7 +96,7 @@ regionFits x region = leb (standingIn x region) standingMost && (bit (x .regions
 unfoldable pub validTariff : Tariff → Bool
 validTariff x =
     leb (x .standing) standingMost
-    && (leb 1 (x .regions) && leb (x .regions) 16383)
+    && (leb 1 (x .regions) && leb (x .regions) allFourteen)
     && (leb 1 (x .methods) && leb (x .methods) 3)
     && ratesWithin (x .rates)
     && every 14 (regionFits x)

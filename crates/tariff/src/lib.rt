@@ -20,6 +20,9 @@ pub const STANDING_MOST: u32 = 1_000_000;
 
 pub const STEP_MOST: u32 = 9_999;
 
+// All fourteen regions, bits 0 to 13.
+pub const ALL_FOURTEEN: u32 = 16_383;
+
 // How many numbers a record has.
 pub const RECORD_LENGTH: usize = 27;
 
@@ -231,7 +234,7 @@ fn is_valid(x: Tariff) -> bool
     if x.regions < 1 {
         return false;
     }
-    if 16_383 < x.regions {
+    if ALL_FOURTEEN < x.regions {
         return false;
     }
     if x.methods < 1 {

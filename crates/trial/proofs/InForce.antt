@@ -10,7 +10,7 @@ use Rattle.laws.proofs.Never.{never}
 use Rattle.laws.proofs.Sets.{set-none}
 use Rattle.refusal.specs.declared.Check.the-variants.{Pass}
 use Rattle.benchmark.specs.Benchmark.{setCheck}
-use Rattle.desks.specs.Desks.{allFourteen}
+use Rattle.tariff.specs.Tariff.{allFourteen}
 use Rattle.book.specs.declared.State.{State}
 use Rattle.book.specs.declared.State.the-variants.{Empty, Draft, Marked, Open}
 use Rattle.book.specs.declared.Place.{Place}

@@ -9,7 +9,8 @@ use Rattle.refusal.specs.declared.Check.{Check}
 use Rattle.refusal.specs.declared.Check.the-variants.{Pass, Refuse}
 use Rattle.refusal.specs.Checks.{checked, need}
 use Rattle.benchmark.specs.Benchmark.{setCheck}
-use Rattle.desks.specs.Desks.{allFourteen, isFull}
+use Rattle.tariff.specs.Tariff.{allFourteen}
+use Rattle.desks.specs.Desks.{isFull}
 use Rattle.book.specs.declared.Place.{Place}
 use Rattle.book.specs.declared.Book.{Book}
 use Rattle.book.specs.Calls.{Sheet, SET, by, call, Answer, accepted, refusalNumber}

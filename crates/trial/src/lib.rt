@@ -4,7 +4,7 @@
 // `setting::judge`. Only a desk with all fourteen regions may try one: 17 to any other. It requires document 01's own sentence on the book, `Reachable`.
 ghost use mathlib.Core.Path.{_≡_};
 ghost use mathlib.Core.Bool.{cond};
-ghost use Rattle.desks.specs.Desks.{allFourteen};
+ghost use Rattle.tariff.specs.Tariff.{allFourteen};
 ghost use Rattle.book.specs.Calls.{sheetAt};
 ghost use Rattle.book.specs.Book.{Reachable};
 ghost use Rattle.queries.specs.Queries.{tellingOf};

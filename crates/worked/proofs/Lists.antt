@@ -11,8 +11,7 @@ use Rattle.refusal.specs.Checks.{checked, need}
 use Rattle.benchmark.specs.declared.Benchmarks.{Benchmarks}
 use Rattle.benchmark.specs.Benchmark.{setCheck, benchmark, wc, pc, oc, nc, paenc, headroom, panc, figure, figures, benchmarksOf}
 use Rattle.tariff.specs.declared.Tariff.{Tariff}
-use Rattle.tariff.specs.Tariff.{tariffOf, standingIn, recordCheck}
-use Rattle.desks.specs.Desks.{allFourteen}
+use Rattle.tariff.specs.Tariff.{tariffOf, standingIn, recordCheck, allFourteen}
 use Rattle.verdict.specs.Cells.{Cell, offered, cellNumbers, cellCount, Verdict, opens, verdict, verdictAt, firstOver}
 use Rattle.verdict.specs.Cells as verdicts
 use Rattle.book.specs.declared.Book.{Book}

@@ -11,8 +11,7 @@ use Rattle.calendar.specs.Calendar.{periodInRange}
 use Rattle.sheet.specs.Sheet.{signed, valueOf, rangeOf, fieldInRange, fieldsInRange, round, roundSigned, indexed, fourFit, paacFits, termsFit}
 use Rattle.benchmark.specs.Benchmark.{benchmark, wc, pc, oc, nc, paenc, headroom, panc, figure, figures, ocsFit, ordered, setCheck}
 use Rattle.tariff.specs.declared.Tariff.{Tariff}
-use Rattle.tariff.specs.Tariff.{tariffOf}
-use Rattle.desks.specs.Desks.{allFourteen}
+use Rattle.tariff.specs.Tariff.{tariffOf, allFourteen}
 use Rattle.verdict.specs.Cells.{Verdict, verdict}
 use Rattle.book.specs.declared.State.the-variants.{Open}
 use Rattle.book.specs.declared.Place.{Place}

@@ -3,7 +3,7 @@
 use mathlib.Core.Path.{_≡_}
 use mathlib.Core.List.{[], _∷_}
 use lib.IntN.{pos}
-use Rattle.desks.specs.Desks.{allFourteen}
+use Rattle.tariff.specs.Tariff.{allFourteen}
 use Rattle.book.specs.declared.Book.{Book}
 use Rattle.book.specs.Calls.{sheetAt, SET, PUT}
 use Rattle.queries.specs.Queries.{refused, benchmarkCharge, maximumCharge, quotation, benchmarkOf, maximumOf}

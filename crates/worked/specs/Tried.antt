@@ -2,7 +2,7 @@
 -- Assumes nothing.
 use mathlib.Core.Path.{_≡_}
 use mathlib.Core.List.{List, [], _∷_, _++_}
-use Rattle.desks.specs.Desks.{allFourteen}
+use Rattle.tariff.specs.Tariff.{allFourteen}
 use Rattle.book.specs.declared.Book.{Book}
 use Rattle.book.specs.Calls.{Act, SET, PUT, OPEN, CLOSE}
 use Rattle.book.specs.Book.{fresh}

@@ -4,7 +4,7 @@ use mathlib.Core.Path.{_≡_}
 use mathlib.Core.List.{List, [], _∷_, map}
 use lib.IntN.{pos}
 use Prim.Native.Nat.{ℕ}
-use Rattle.desks.specs.Desks.{allFourteen}
+use Rattle.tariff.specs.Tariff.{allFourteen}
 use Rattle.verdict.specs.Cells.{cell}
 use Rattle.book.specs.declared.Book.{Book}
 use Rattle.book.specs.Calls.{Sheet, Record, Act, SET, PUT, OPEN, CLOSE, DROP, UNDO, ASK, CONFIRM, call, Answer, accepted, cells, refused, over}

@@ -4,7 +4,7 @@ use mathlib.Core.Path.{refl}
 use lib.Dec.{leb}
 use borrow.Author.Tests.{le-leb, lt-leb}
 use Rattle.laws.proofs.Answers.{goes, stays}
-use Rattle.desks.specs.Desks.{allFourteen}
+use Rattle.tariff.specs.Tariff.{allFourteen}
 use Rattle.desks.proofs.is_desk.Statement.{statement}
 use Rattle.desks.proofs.is_desk.Tie as tie
 

@@ -6,7 +6,7 @@ use lib.Dec.{leb}
 use borrow.Author.Needs.{needs}
 use borrow.Author.Tests.{le-leb, lt-leb, not-true, not-false}
 use Rattle.laws.proofs.Every.{and-both}
-use Rattle.tariff.specs.Tariff.{standingMost, ratesWithin, validKind, validTariff}
+use Rattle.tariff.specs.Tariff.{allFourteen, standingMost, ratesWithin, validKind, validTariff}
 use Rattle.tariff.specs.declared.Tariff.{Tariff}
 use Rattle.tariff.proofs.ByKind.{single, double, multiple, no-kind}
 use Rattle.tariff.proofs.is_valid.Statement.{statement}
@@ -30,14 +30,14 @@ x₇ c = x₆ (c .before .before)
 standing : (c : tie.Else1) → leb (x₁ c .standing) standingMost ≡ true
 standing c = le-leb _ _ (c .if1 .left)
 
-regions : (c : tie.Else3) → (leb (x₃ c .standing) standingMost && (leb 1 (x₃ c .regions) && leb (x₃ c .regions) 16383)) ≡ true
+regions : (c : tie.Else3) → (leb (x₃ c .standing) standingMost && (leb 1 (x₃ c .regions) && leb (x₃ c .regions) allFourteen)) ≡ true
 regions c =
     let l = c .before .before in
     and-both _ _ (standing (l .before .before)) (and-both _ _ (le-leb _ _ (l .if2 .left)) (le-leb _ _ (c .if3 .left)))
 
 methods : (c : tie.Else5) →
     (leb (x₅ c .standing) standingMost
-    && (leb 1 (x₅ c .regions) && leb (x₅ c .regions) 16383)
+    && (leb 1 (x₅ c .regions) && leb (x₅ c .regions) allFourteen)
     && (leb 1 (x₅ c .methods) && leb (x₅ c .methods) 3)) ≡ true
 methods c =
     let l = c .before .before in
@@ -45,7 +45,7 @@ methods c =
 
 rates : (c : tie.Else6) →
     (leb (x₆ c .standing) standingMost
-    && (leb 1 (x₆ c .regions) && leb (x₆ c .regions) 16383)
+    && (leb 1 (x₆ c .regions) && leb (x₆ c .regions) allFourteen)
     && (leb 1 (x₆ c .methods) && leb (x₆ c .methods) 3)
     && ratesWithin (x₆ c .rates)) ≡ true
 unfolding ratesWithin

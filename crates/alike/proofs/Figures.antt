@@ -55,6 +55,11 @@ module _ (desk : ℕ) (s t : Sheet) (h : SheetsAlike desk s t) where
       ∙ ap natAbs (benchmark-same (k / 8) (k / 4 % 2) (k / 2 % 2) (k % 2) (rw er i) (omega arith) (omega arith) (omega arith))
       ∙ sym (figure-at-index (t .fields) k (omega arith))
 
+  -- m of either arrangement
+  pub m-same : (a standing : ℕ) (c : Cell) → cellNumbers (figuresOf s) a standing c .m ≡ cellNumbers (figuresOf t) a standing c .m
+  unfolding cellNumbers benchmarksOf
+  m-same a standing c = λ j. getD (high-same 93 (omega arith) j ∷ high-same 94 (omega arith) j ∷ []) a 0
+
   -- and the numbers of one of its cells
   pub numbers-same : (a standing : ℕ) (c : Cell) → inDesk desk (c .region) ≡ true → c .region < 14 → a < 2 → c .method < 2
       → cellNumbers (figuresOf s) a standing c ≡ cellNumbers (figuresOf t) a standing c

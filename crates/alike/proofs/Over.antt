@@ -14,8 +14,8 @@ use Rattle.tariff.specs.Tariff.{recordCheck}
 use Rattle.desks.specs.Desks.{isFull, inDesk, mayUse}
 use Rattle.verdict.specs.Cells.{Cell, verdictAt, verdict, firstOver}
 use Rattle.verdict.proofs.Meaning.{first-exceeds}
-use Rattle.book.specs.Calls.{Act, SET, PUT, OPEN, CLOSE, DROP, UNDO, ASK, CONFIRM, Answer, accepted, cells, refused, over}
-use Rattle.book.specs.Checks.{Holding, Readings, isOpen, figuresOf, inside, verdictAnswer, mayUseHeld, mayPut, openAnswer, answer}
+use Rattle.book.specs.Calls.{Act, SET, PUT, OPEN, CLOSE, DROP, UNDO, ASK, CONFIRM, DIRECT, Answer, accepted, cells, refused, over}
+use Rattle.book.specs.Checks.{Holding, Readings, isOpen, figuresOf, inside, verdictAnswer, openedAs, mayUseHeld, mayPut, openAnswer, answer}
 use Rattle.book.specs.Book.{bookReadings, step}
 use Rattle.alike.specs.Full.{OverInside}
 use Rattle.alike.proofs.Inside.{cell-inside}
@@ -49,6 +49,10 @@ module _ (desk : ℕ) where
       go none e = tt
       go (some c) e = cell-inside desk x c may (first-exceeds f x c e .0)
 
+  opened-inside : (d : Bool) (f : Benchmarks) (x : Tariff) → mayUse desk (x .regions) ≡ true → Inside (openedAs d f x)
+  opened-inside true f x may = tt
+  opened-inside false f x may = verdict-inside f x may
+
   module _ (r : Readings) where
     -- a call on a code that the desk may use
     code-inside : (k : ℕ) (f : Holding → Answer) → ((h : Holding) → mayUseHeld desk h ≡ true → Inside (f h))
@@ -59,7 +63,7 @@ module _ (desk : ℕ) where
     open-inside : (k : ℕ) → Inside (openAnswer desk k (r .held k) (r .sheet))
     open-inside k =
         code-inside k _
-        (λ h may. need-inside (not (h .isOpen)) 7 _ (λ _. given-inside (r .sheet) 10 _ (λ s. verdict-inside (figuresOf s) (h .tariff) may)))
+        (λ h may. need-inside (not (h .isOpen)) 7 _ (λ _. given-inside (r .sheet) 10 _ (λ s. opened-inside (h .isDirected) (figuresOf s) (h .tariff) may)))
 
     answer-inside : (a : Act) → Inside (answer desk r a)
     answer-inside (SET s) = need-inside (isFull desk) 17 _ (λ _. checked-inside (setCheck (s .fields) (s .period)) _ tt)
@@ -72,6 +76,9 @@ module _ (desk : ℕ) where
     answer-inside UNDO = need-inside (isFull desk) 17 _ (λ _. need-inside (r .mayUndo) 15 _ (λ _. tt))
     answer-inside (ASK k) = open-inside k
     answer-inside (CONFIRM k) = code-inside k _ (λ h _. need-inside (not (h .isOpen)) 7 _ (λ _. need-inside (h .isMarked) 16 _ (λ _. tt)))
+    answer-inside (DIRECT k) =
+        need-inside (isFull desk) 17 _
+        (λ _. need-inside (inside k) 6 _ (λ _. given-inside (r .held k) 9 _ (λ h. need-inside (not (h .isOpen)) 7 _ (λ _. tt))))
 
 pub over-inside : OverInside
 unfolding step

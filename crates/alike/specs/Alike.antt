@@ -28,7 +28,7 @@ InForceAlike desk none (some t) = ⊥
 InForceAlike desk (some s) none = ⊥
 InForceAlike desk (some s) (some t) = SheetsAlike desk s t
 
--- the places have the tariffs, the states and the marks. What is kept for UNDO is not compared: this desk cannot use it
+-- the places have the tariffs, the states, the marks and, since M-108, the directions. What is kept for UNDO is not compared: this desk cannot use it
 pub record Alike (desk : ℕ) (b c : Book) : Type 0 where
   pub places : b .places ≡ c .places
   pub sheets : InForceAlike desk (inForce b) (inForce c)

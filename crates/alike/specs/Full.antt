@@ -1,5 +1,5 @@
--- "Only a desk with all fourteen .." (document 02, M-107): such a desk gets of each call the answer that it had before there were desks. Below is
--- what was answered then, a line a call, from documents 01 and 02 without M-107. And no desk is told of a cell outside it.
+-- "Only a desk with all fourteen .." (document 02, M-107): such a desk gets of each call the answer that there would be without desks. Below is
+-- that answer, a line a call, from documents 01 and 02 without M-107. And no desk is told of a cell outside it.
 -- Assumes nothing.
 use mathlib.Core.Path.{_≡_}
 use mathlib.Core.Bool.{true, not, _&&_}
@@ -11,23 +11,24 @@ use Rattle.refusal.specs.Checks.{checked, need, given}
 use Rattle.benchmark.specs.Benchmark.{benchmark, setCheck}
 use Rattle.tariff.specs.Tariff.{recordCheck, allFourteen}
 use Rattle.desks.specs.Desks.{inDesk}
-use Rattle.verdict.specs.Cells.{Cell, cellCount, verdict}
+use Rattle.verdict.specs.Cells.{Cell}
 use Rattle.book.specs.declared.Book.{Book}
-use Rattle.book.specs.Calls.{Act, SET, PUT, OPEN, CLOSE, DROP, UNDO, ASK, CONFIRM, by, Answer, accepted, cells, refused, over, refusalNumber}
-use Rattle.book.specs.Checks.{Readings, isOpen, figuresOf, inside, verdictAnswer}
+use Rattle.book.specs.Calls.{Act, SET, PUT, OPEN, CLOSE, DROP, UNDO, ASK, CONFIRM, DIRECT, by, Answer, accepted, refused, over, refusalNumber}
+use Rattle.book.specs.Checks.{Readings, isOpen, figuresOf, inside, openedAs, confirmedAs}
 use Rattle.book.specs.Book.{inForce, bookReadings, step, after}
 use Rattle.queries.specs.Queries.{benchmarkCharge, maximumCharge, quotation, falling, inRanges, maximumIn}
 use Rattle.quoting.specs.Quote.{cellAllowed, monthsAllowed, quotationIn}
 use Rattle.queries.specs.Queries as tells
 use Rattle.trial.specs.Trial.{toldUnless, codesWhere, falls}
-use Rattle.alike.specs.Replies.{Asking, act, BENCHMARK, MAXIMUM, QUOTE, TRIAL, Reply, answered, told, replyTo}
+use Rattle.rebates.specs.Rebates.{runOf, afterRun}
+use Rattle.alike.specs.Replies.{Asking, act, BENCHMARK, MAXIMUM, QUOTE, TRIAL, REBATE, Reply, answered, told, ran, replyTo}
 
--- SET: 1 to 4, 14, 5. PUT: 6, 7, 8. OPEN and ASK: 6, 9, 7, 10, 11. CLOSE: 6, 9, 12. DROP: 6, 9, 7. UNDO: 15. CONFIRM: 6, 9, 7, 16
+-- SET: 1 to 4, 14, 5. PUT: 6, 7, 8. OPEN and ASK: 6, 9, 7, 10, 11. CLOSE: 6, 9, 12. DROP: 6, 9, 7. UNDO: 15. CONFIRM: 6, 9, 7, 16. DIRECT: 6, 9, 7
 abbrev pub openHad : Readings → ℕ → Answer
 openHad r k =
     need refused (inside k) 6
     (given refused (r .held k) 9
-    (λ h. need refused (not (h .isOpen)) 7 (given refused (r .sheet) 10 (λ s. verdictAnswer (verdict (figuresOf s) (h .tariff))))))
+    (λ h. need refused (not (h .isOpen)) 7 (given refused (r .sheet) 10 (λ s. openedAs (h .isDirected) (figuresOf s) (h .tariff)))))
 
 abbrev pub answerHad : Readings → Act → Answer
 answerHad r (SET s) = checked refused (setCheck (s .fields) (s .period)) accepted
@@ -41,9 +42,10 @@ answerHad r (ASK k) = openHad r k
 answerHad r (CONFIRM k) =
     need refused (inside k) 6
     (given refused (r .held k) 9
-    (λ h. need refused (not (h .isOpen)) 7 (need refused (h .isMarked) 16 (cells (cellCount (h .tariff))))))
+    (λ h. need refused (not (h .isOpen)) 7 (need refused (h .isMarked) 16 (confirmedAs (h .isDirected) (h .tariff)))))
+answerHad r (DIRECT k) = need refused (inside k) 6 (given refused (r .held k) 9 (λ h. need refused (not (h .isOpen)) 7 accepted))
 
--- BENCHMARK and MAXIMUM: 13, 10. QUOTE: 6, 9, 10, 13. TRIAL: as SET
+-- BENCHMARK and MAXIMUM: 13, 10. QUOTE: 6, 9, 10, 13. TRIAL: as SET. REBATE has no 17 of its own: it goes by QUOTE's answers
 abbrev pub replyHad : Book → Asking → Reply
 replyHad b (act a) = answered (answerHad (bookReadings b) a)
 replyHad b (BENCHMARK r a p l) =
@@ -60,6 +62,7 @@ replyHad b (QUOTE k r p months) =
 replyHad b (TRIAL s) =
     let set = answerHad (bookReadings b) (SET s) in
     told (toldUnless (refusalNumber set) (falling (codesWhere (falls b (after set b (SET s))))))
+replyHad b (REBATE l) = ran (runOf b allFourteen l) (afterRun b allFourteen l)
 
 abbrev pub FullDesk : Type 0
 FullDesk = (b : Book) (a : Asking) → replyTo allFourteen b a ≡ replyHad b a

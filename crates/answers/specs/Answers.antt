@@ -2,7 +2,7 @@
 -- Assumes nothing.
 use mathlib.Core.List.{List, [], _∷_}
 use mathlib.Core.Option.{Option, none, some}
-use Prim.Native.Nat.{ℕ}
+use Prim.Native.Nat.{ℕ, _+_, _*_}
 use lib.IntN.{natAbs}
 use Rattle.book.specs.Calls.{Answer, accepted, cells, refused, over, refusalNumber}
 use Rattle.queries.specs.Queries.{Telling, benchmarkCharge, maximumCharge, quotation, falling}
@@ -21,7 +21,7 @@ carried (cells n) = n ∷ []
 carried (refused n) = []
 carried (over c months excess) = c .region ∷ c .method ∷ natAbs excess ∷ months
 
--- set, put, open, close, drop, undo, ask, confirm: ok | ok CELLS | refused N | refused 11 REGION METHOD EXCESS M1 .. Mt
+-- set, put, open, close, drop, undo, ask, confirm, direct: ok | ok CELLS | refused N | refused 11 REGION METHOD EXCESS M1 .. Mt
 abbrev pub answerText : Answer → List ℕ
 answerText a = okOrRefused (refusalNumber a) (carried a)
 
@@ -34,9 +34,18 @@ toldText (maximumCharge f) = okOrRefused none (f .number ∷ f .denominator ∷ 
 toldText (quotation q) = okOrRefused none (q .charge ∷ q .maximum ∷ [])
 toldText (falling codes) = okOrRefused none (codes ∷ [])
 
--- room enough for any answer, and for any but refusal 11
+-- no line has more accounts: it has at most 16,384 bytes, and so numbers, and 16 of them are an account
+abbrev pub accountsMost : ℕ
+accountsMost = 1024
+
+-- room enough for any answer of a line: "ok", a total and the rebate of each account, each number behind a space and of 20 digits at most, and a
+-- line feed
 abbrev pub answerRoom : ℕ
-answerRoom = 344
+answerRoom = 2 + 21 * (1 + accountsMost) + 1
+
+-- for any answer but that of REBATE, and for any of these but refusal 11
+abbrev pub stepRoom : ℕ
+stepRoom = 344
 
 abbrev pub shortRoom : ℕ
 shortRoom = 50

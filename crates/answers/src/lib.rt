@@ -1,7 +1,7 @@
-// The answers of the twelve calls, as text in a buffer that the caller lends.
+// The answers of all calls but REBATE, as text in a buffer that the caller lends.
 // Promise: each function puts exactly the text that specs/Answers.antt defines (`Puts` of texts). The layer above may use `put_reply`, for a
-// call that may change the book, and `put_told`, for one that tells of it; they require `answerRoom` and `shortRoom`, room for the longest
-// answer of each.
+// call that may change the book, and `put_told`, for one that tells of it; they require `stepRoom` and `shortRoom`, room for the longest
+// answer of each. `answerRoom` is room for any answer, that of REBATE included.
 ghost use mathlib.Core.Path.{_≡_};
 ghost use mathlib.Core.List.{[], _∷_};
 ghost use Prim.Native.Nat.{_+_, _≤_};
@@ -13,9 +13,14 @@ ghost use Rattle.book.specs.Promises.{answerOf};
 ghost use Rattle.queries.specs.Queries.{tellingOf};
 ghost use Rattle.texts.specs.Texts.{bytesOf, lineOf};
 ghost use Rattle.texts.specs.Writing.{Puts};
-ghost use Rattle.answers.specs.Answers.{answerRoom, shortRoom, answerText, toldText};
+ghost use Rattle.answers.specs.Answers.{stepRoom, shortRoom, answerText, toldText};
 use book::Reply;
 use queries::Told;
+
+// No line has more accounts; and room for any answer of a line.
+pub const ACCOUNTS_MOST: usize = 1024;
+
+pub const ANSWER_ROOM: usize = 2 + 21 * (1 + ACCOUNTS_MOST) + 1;
 
 // ok and one number
 fn put_ok(out: &mut [u8], at: usize, x: u64) -> usize
@@ -68,7 +73,7 @@ fn put_over(
     excess: u64,
     months: [u32; 12],
 ) -> usize
-    requires { ⌜ at + answerRoom ≤ length (now out) ⌝ }
+    requires { ⌜ at + stepRoom ≤ length (now out) ⌝ }
     ensures { λ r. ⌜ Puts (now (out .entry)) at (answerText (over (cell region method) (take t months) (pos excess))) r (now (out .exit)) ⌝ }
 {
     let numbers = over_numbers(region, method, excess, months);
@@ -79,9 +84,9 @@ fn put_over(
     texts::put_line(out, at, b"refused", &numbers)
 }
 
-// The answer of SET, PUT, OPEN, CLOSE, DROP, UNDO, ASK or CONFIRM, with the months that stand beside it.
+// The answer of SET, PUT, OPEN, CLOSE, DROP, UNDO, ASK, CONFIRM or DIRECT, with the months that stand beside it.
 pub fn put_reply(out: &mut [u8], at: usize, reply: Reply, months: [u32; 12]) -> usize
-    requires { ⌜ at + answerRoom ≤ length (now out) ⌝ }
+    requires { ⌜ at + stepRoom ≤ length (now out) ⌝ }
     ensures { λ r. ⌜ Puts (now (out .entry)) at (answerText (answerOf reply months)) r (now (out .exit)) ⌝ }
 {
     match reply {

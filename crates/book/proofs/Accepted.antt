@@ -9,10 +9,13 @@ use Rattle.laws.proofs.Never.{never}
 use Rattle.refusal.specs.declared.Check.{Check}
 use Rattle.refusal.specs.declared.Check.the-variants.{Pass, Refuse}
 use Rattle.refusal.specs.Checks.{checked, need, given}
+use Rattle.benchmark.specs.declared.Benchmarks.{Benchmarks}
+use Rattle.tariff.specs.declared.Tariff.{Tariff}
 use Rattle.tariff.specs.Tariff.{recordCheck}
-use Rattle.verdict.specs.Cells.{Cell, cellCount, verdictAt, verdict, firstOver}
-use Rattle.book.specs.Calls.{Sheet, Record, Answer, accepted, cells, refused, isAccepted}
-use Rattle.book.specs.Checks.{Holding, isOpen, figuresOf, inside, verdictAnswer, mayUseHeld, putAnswer, openAnswer, closeAnswer, dropAnswer, confirmAnswer}
+use Rattle.desks.specs.Desks.{isFull}
+use Rattle.verdict.specs.Cells.{Cell, verdictAt, verdict, firstOver}
+use Rattle.book.specs.Calls.{Sheet, Record, Answer, accepted, refused, isAccepted}
+use Rattle.book.specs.Checks.{Holding, isOpen, figuresOf, inside, verdictAnswer, openedAs, confirmedAs, mayUseHeld, putAnswer, openAnswer, closeAnswer, dropAnswer, confirmAnswer, directAnswer}
 
 pub checked-accepted : (c : Check) (a : Answer) → isAccepted (checked refused c a) ≡ true → (c ≡ Pass) × (isAccepted a ≡ true)
 checked-accepted Pass a e = (refl, e)
@@ -27,10 +30,17 @@ pub given-accepted : {B : Type 0} (o : Option B) (n : ℕ) (next : B → Answer)
 given-accepted none n next e = never (cc)
 given-accepted (some x) n next e = (x, refl, e)
 
-verdict-accepted : (s : Sheet) (h : Holding) (f : Option Cell) → firstOver (figuresOf s) (h .tariff) ≡ f
-    → isAccepted (verdictAnswer (verdictAt (figuresOf s) (h .tariff) f)) ≡ true → firstOver (figuresOf s) (h .tariff) ≡ none
-verdict-accepted s h none q e = q
-verdict-accepted s h (some c) q e = never (cc)
+verdict-accepted : (f : Benchmarks) (x : Tariff) (o : Option Cell) → firstOver f x ≡ o
+    → isAccepted (verdictAnswer (verdictAt f x o)) ≡ true → firstOver f x ≡ none
+verdict-accepted f x none q e = q
+verdict-accepted f x (some c) q e = never (cc)
+
+-- OPEN and ASK, where they accept: without a direction the tariff exceeds nowhere, and the number of cells is the one that CONFIRM answers
+pub opened-accepted : (d : Bool) (f : Benchmarks) (x : Tariff) → isAccepted (openedAs d f x) ≡ true
+    → (d ≡ false → firstOver f x ≡ none) × (openedAs d f x ≡ confirmedAs d x)
+unfolding verdict
+opened-accepted true f x e = (λ q. never (cc), refl)
+opened-accepted false f x e = let v = verdict-accepted f x (firstOver f x) refl e in (λ q. v, rw v)
 
 -- PUT: the code is in range, and the record passes refusal 8
 pub put-accepted : (desk k : ℕ) (held : Option Holding) (x : Record) → isAccepted (putAnswer desk k held x) ≡ true
@@ -62,7 +72,16 @@ confirm-accepted desk k held e =
     let d = need-accepted (not (g .0 .isOpen)) 7 _ (m .1) in
     (f .0, g .0, g .1, need-accepted (g .0 .isMarked) 16 _ (d .1) .0)
 
--- OPEN and ASK: a sheet is in force, with it the tariff exceeds nowhere, and the answer is the number of its cells
+-- DIRECT: the desk has all fourteen regions, the code is in range, and its place holds a draft
+pub direct-accepted : (desk k : ℕ) (held : Option Holding) → isAccepted (directAnswer desk k held) ≡ true
+    → (isFull desk ≡ true) × (inside k ≡ true) × (h : Holding) × (held ≡ some h) × (h .isOpen ≡ false)
+direct-accepted desk k held e =
+    let d = need-accepted (isFull desk) 17 _ e in
+    let f = need-accepted (inside k) 6 _ (d .1) in
+    let g = given-accepted held 9 _ (f .1) in
+    (d .0, f .0, g .0, g .1, not-true (g .0 .isOpen) (need-accepted (not (g .0 .isOpen)) 7 _ (g .2) .0))
+
+-- OPEN and ASK: a sheet is in force, with it a tariff without a direction exceeds nowhere, and the answer is that of CONFIRM
 pub record Opens (desk k : ℕ) (held : Option Holding) (sheet : Option Sheet) : Type 0 where
   pub code : inside k ≡ true
   pub h : Holding
@@ -71,22 +90,21 @@ pub record Opens (desk k : ℕ) (held : Option Holding) (sheet : Option Sheet) :
   pub shut : h .isOpen ≡ false
   pub s : Sheet
   pub in-force : sheet ≡ some s
-  pub none-over : firstOver (figuresOf s) (h .tariff) ≡ none
-  pub answers : openAnswer desk k held sheet ≡ cells (cellCount (h .tariff))
+  pub none-over : h .isDirected ≡ false → firstOver (figuresOf s) (h .tariff) ≡ none
+  pub answers : openAnswer desk k held sheet ≡ confirmedAs (h .isDirected) (h .tariff)
 
 with-cells : (desk k : ℕ) (held : Option Holding) (sheet : Option Sheet) (h : Holding) (s : Sheet)
-    → inside k ≡ true → held ≡ some h → mayUseHeld desk h ≡ true → not (h .isOpen) ≡ true → sheet ≡ some s → firstOver (figuresOf s) (h .tariff) ≡ none
-    → openAnswer desk k held sheet ≡ cells (cellCount (h .tariff))
-unfolding verdict
-with-cells desk k held sheet h s i g m o f v = rw (i, g, m, o, f, v)
+    → inside k ≡ true → held ≡ some h → mayUseHeld desk h ≡ true → not (h .isOpen) ≡ true → sheet ≡ some s
+    → openedAs (h .isDirected) (figuresOf s) (h .tariff) ≡ confirmedAs (h .isDirected) (h .tariff)
+    → openAnswer desk k held sheet ≡ confirmedAs (h .isDirected) (h .tariff)
+with-cells desk k held sheet h s i g m o f v = rw (i, g, m, o, f) v
 
 pub open-accepted : (desk k : ℕ) (held : Option Holding) (sheet : Option Sheet) → isAccepted (openAnswer desk k held sheet) ≡ true → Opens desk k held sheet
-unfolding verdict
 open-accepted desk k held sheet e =
     let f = need-accepted (inside k) 6 _ e in
     let g = given-accepted held 9 _ (f .1) in
     let m = need-accepted (mayUseHeld desk (g .0)) 17 _ (g .2) in
     let d = need-accepted (not (g .0 .isOpen)) 7 _ (m .1) in
     let i = given-accepted sheet 10 _ (d .1) in
-    let v = verdict-accepted (i .0) (g .0) (firstOver (figuresOf (i .0)) (g .0 .tariff)) refl (i .2) in
-    record { code = f .0; h = g .0; its = g .1; may = m .0; shut = not-true (g .0 .isOpen) (d .0); s = i .0; in-force = i .1; none-over = v; answers = with-cells desk k held sheet (g .0) (i .0) (f .0) (g .1) (m .0) (d .0) (i .1) v }
+    let v = opened-accepted (g .0 .isDirected) (figuresOf (i .0)) (g .0 .tariff) (i .2) in
+    record { code = f .0; h = g .0; its = g .1; may = m .0; shut = not-true (g .0 .isOpen) (d .0); s = i .0; in-force = i .1; none-over = v .0; answers = with-cells desk k held sheet (g .0) (i .0) (f .0) (g .1) (m .0) (d .0) (i .1) (v .1) }

@@ -98,12 +98,12 @@ module _ (b : Book) (k at : ℕ) (p : Place) (index : inside k ≡ true → suc 
   pub stored-there : (f : Place → Place) → inside k ≡ true → withPlace b k (f (placeOf (b .places) k)) ≡ withPlace b (suc at) (f p)
   stored-there f e = ap₂ (withPlace b) (sym (index e)) (ap f (at-code e))
 
-  -- a call on that place does what its settling says
-  pub settles-does : (c : Call) (rest : Check) (next : Answer) (f : Place → Place) (r : Settled)
-      → answer (c .desk) (bookReadings b) (c .act) ≡ checked refused (first (codeCheck k) rest) next
+  -- a call on that place does what its settling says; a check may stand before that of its code
+  pub settles-does : (c : Call) (lead rest : Check) (next : Answer) (f : Place → Place) (r : Settled)
+      → answer (c .desk) (bookReadings b) (c .act) ≡ checked refused (first lead (first (codeCheck k) rest)) next
       → changed b (c .act) ≡ withPlace b k (f (placeOf (b .places) k))
-      → Settles (first (codeCheck k) rest) next p (f p) r → Does b c (settledIn b at r)
-  settles-does c rest next f r e g h =
+      → Settles (first lead (first (codeCheck k) rest)) next p (f p) r → Does b c (settledIn b at r)
+  settles-does c lead rest next f r e g h =
       record {
         answers = h .answers ∙ sym (answered-by b c ∙ e);
         leaves =
@@ -114,15 +114,16 @@ module _ (b : Book) (k at : ℕ) (p : Place) (index : inside k ≡ true → suc 
       }
     where
       a : Answer
-      a = checked refused (first (codeCheck k) rest) next
+      a = checked refused (first lead (first (codeCheck k) rest)) next
 
-      coded : (t : Bool) → isAccepted (checked refused (first (unless t 6 Pass) rest) next) ≡ true → t ≡ true
-      coded true q = refl
-      coded false q = never (cc)
+      coded : (l : Check) (t : Bool) → isAccepted (checked refused (first l (first (unless t 6 Pass) rest)) next) ≡ true → t ≡ true
+      coded l true q = refl
+      coded Pass false q = never (cc)
+      coded (Refuse n) false q = never (cc)
 
       go : (t : Bool) → isAccepted a ≡ t
           → withPlaces b (setPlace (b .places) (suc at) (cond t (f p) p)) (cond t nothingKept (b .kept)) ≡ step b c .book
-      go true q = sym (stored-there f (coded (inside k) q)) ∙ sym g ∙ sym (made b c _ e q)
+      go true q = sym (stored-there f (coded lead (inside k) q)) ∙ sym g ∙ sym (made b c _ e q)
       go false q = same-place b at p there ∙ sym (unchanged b c _ e q)
 
 -- where what is kept is stored by itself, behind a test whether the answer accepts

@@ -1,7 +1,7 @@
 -- "The book" of document 01: the places, and what each call answers and leaves.
 -- Assumes nothing.
 use mathlib.Core.Path.{_≡_}
-use mathlib.Core.Bool.{Bool, true, false, cond}
+use mathlib.Core.Bool.{Bool, true, false, cond, _||_}
 use mathlib.Core.List.{List, [], _∷_, map, zipWith}
 use mathlib.Core.Option.{Option, none, some}
 use Prim.Native.Nat.{ℕ, zero, suc}
@@ -18,20 +18,23 @@ use Rattle.book.specs.declared.Place.{Place}
 use Rattle.book.specs.declared.Stood.{Stood}
 use Rattle.book.specs.declared.Kept.{Kept}
 use Rattle.book.specs.declared.Book.{Book}
-use Rattle.book.specs.Calls.{Sheet, sheetAt, Act, SET, PUT, OPEN, CLOSE, DROP, UNDO, ASK, CONFIRM, Call, Answer, isAccepted}
+use Rattle.book.specs.Calls.{Sheet, sheetAt, Act, SET, PUT, OPEN, CLOSE, DROP, UNDO, ASK, CONFIRM, DIRECT, Call, Answer, isAccepted}
 use Rattle.book.specs.Checks.{Holding, Readings, figuresOf, complies, answer}
 
--- a place is a state beside the numbers of a tariff: one made of the two, and the tariff of one
-abbrev pub placeWith : State → Tariff → Place
-placeWith s x =
-    record { state = s; kind = x .kind; n = x .n; standing = x .standing; regions = x .regions; methods = x .methods; rates = x .rates; steps = x .steps; regional = x .regional }
+-- a place is a state, and whether there is a direction, beside the numbers of a tariff: one made of these, and the tariff of one
+abbrev pub placeWith : State → (directed : Bool) → Tariff → Place
+placeWith s d x =
+    record { state = s; directed = d; kind = x .kind; n = x .n; standing = x .standing; regions = x .regions; methods = x .methods; rates = x .rates; steps = x .steps; regional = x .regional }
 
 abbrev pub tariffIn : Place → Tariff
 tariffIn p =
     record { kind = p .kind; n = p .n; standing = p .standing; regions = p .regions; methods = p .methods; rates = p .rates; steps = p .steps; regional = p .regional }
 
 abbrev pub withState : State → Place → Place
-withState s p = placeWith s (tariffIn p)
+withState s p = placeWith s (p .directed) (tariffIn p)
+
+abbrev pub withDirection : Place → Place
+withDirection p = placeWith (p .state) true (tariffIn p)
 
 -- a place that holds nothing has zeros
 abbrev pub zeros : (four fourteen : List ℕ) → Tariff
@@ -39,7 +42,7 @@ zeros four fourteen =
     record { kind = 0; n = 0; standing = 0; regions = 0; methods = 0; rates = four; steps = four; regional = fourteen }
 
 abbrev pub empty : Place
-empty = placeWith Empty (zeros (replicate 4 0) (replicate 14 0))
+empty = placeWith Empty false (zeros (replicate 4 0) (replicate 14 0))
 
 -- "A fresh book has no sheet and all places empty."
 abbrev pub noPeriod : Period
@@ -59,7 +62,7 @@ fresh =
 
 -- code k is place k - 1; past the places stands what a read there gives
 abbrev pub beyond : Place
-beyond = placeWith Empty (zeros [] [])
+beyond = placeWith Empty false (zeros [] [])
 
 abbrev pub placeOf : List Place → ℕ → Place
 placeOf ps zero = beyond
@@ -69,18 +72,18 @@ abbrev pub setPlace : List Place → ℕ → Place → List Place
 setPlace ps zero p = ps
 setPlace ps (suc i) p = set ps i p
 
--- "A place holds nothing, a draft or an open tariff"; ASK "marks the draft", and "an open tariff has no mark"
-abbrev pub holding : Tariff → Bool → Bool → Holding
-holding x o m = record { tariff = x; isOpen = o; isMarked = m }
+-- "A place holds nothing, a draft or an open tariff"; ASK "marks the draft", and "an open tariff has no mark"; each may be under a direction
+abbrev pub holding : Tariff → (isOpen isMarked isDirected : Bool) → Holding
+holding x o m d = record { tariff = x; isOpen = o; isMarked = m; isDirected = d }
 
-abbrev pub heldIn : State → Tariff → Option Holding
-heldIn Empty x = none
-heldIn Draft x = some (holding x false false)
-heldIn Marked x = some (holding x false true)
-heldIn Open x = some (holding x true false)
+abbrev pub heldIn : State → (directed : Bool) → Tariff → Option Holding
+heldIn Empty d x = none
+heldIn Draft d x = some (holding x false false d)
+heldIn Marked d x = some (holding x false true d)
+heldIn Open d x = some (holding x true false d)
 
 abbrev pub held : Place → Option Holding
-held p = heldIn (p .state) (tariffIn p)
+held p = heldIn (p .state) (p .directed) (tariffIn p)
 
 -- "The book also holds a sheet with its period, or none."
 abbrev pub sheetIf : Bool → Sheet → Option Sheet
@@ -101,27 +104,28 @@ abbrev pub withPlaces : Book → List Place → Kept → Book
 withPlaces b ps kept =
     record { loaded = b .loaded; fields = b .fields; period = b .period; benchmarks = b .benchmarks; places = ps; kept = kept }
 
--- one place changed: UNDO is "allowed only while no PUT, OPEN, CLOSE or DROP has been accepted since that SET", and "an accepted ASK or
--- CONFIRM ends the chance"
+-- one place changed: UNDO is "allowed only while no PUT, OPEN, CLOSE or DROP has been accepted since that SET", "an accepted ASK or
+-- CONFIRM ends the chance", and so does giving a direction
 abbrev pub withPlace : Book → ℕ → Place → Book
 withPlace b k p = withPlaces b (setPlace (b .places) k p) nothingKept
 
--- SET: "each open tariff that exceeds somewhere becomes a draft, the others staying open", and it "clears the mark" of every draft
+-- SET: "each open tariff that exceeds somewhere becomes a draft, the others staying open", but one under a direction it "leaves .. open"; and it
+-- "clears the mark" of every draft
 abbrev pub openIf : Bool → State
 openIf true = Open
 openIf false = Draft
 
-abbrev pub stateUnder : Benchmarks → State → Tariff → State
-stateUnder f Empty x = Empty
-stateUnder f Draft x = Draft
-stateUnder f Marked x = Draft
-stateUnder f Open x = openIf (complies f x)
+abbrev pub stateUnder : Benchmarks → State → (directed : Bool) → Tariff → State
+stateUnder f Empty d x = Empty
+stateUnder f Draft d x = Draft
+stateUnder f Marked d x = Draft
+stateUnder f Open d x = openIf (d || complies f x)
 
 abbrev pub under : Benchmarks → Place → Place
-under f p = withState (stateUnder f (p .state) (tariffIn p)) p
+under f p = withState (stateUnder f (p .state) (p .directed) (tariffIn p)) p
 
--- "One step is kept": of the book before a SET its sheet, or none, and the state of each place. As long as UNDO is allowed no tariff
--- changes, and the figures are those of the sheet
+-- "One step is kept": of the book before a SET its sheet, or none, and the state of each place. As long as UNDO is allowed no tariff and no
+-- direction changes, and the figures are those of the sheet
 abbrev pub keptOf : Book → Kept
 keptOf b =
     record { any = true; loaded = b .loaded; fields = b .fields; period = b .period; states = map (λ p. stoodAs (p .state)) (b .places) }
@@ -135,17 +139,18 @@ abbrev pub restored : Book → Book
 restored b =
     record { loaded = b .kept .loaded; fields = b .kept .fields; period = b .kept .period; benchmarks = figuresIf (sheetIf (b .kept .loaded) (sheetAt (b .kept .fields) (b .kept .period))); places = zipWith (λ s. withState (s .state)) (b .kept .states) (b .places); kept = nothingKept }
 
--- the book after an accepted call
+-- the book after an accepted call: a direction stays until an accepted PUT or DROP, which "end it"
 abbrev pub changed : Book → Act → Book
 changed b (SET s) =
     record { loaded = true; fields = s .fields; period = s .period; benchmarks = figuresOf s; places = map (under (figuresOf s)) (b .places); kept = keptOf b }
-changed b (PUT k x) = withPlace b k (placeWith Draft (tariffOf x))
+changed b (PUT k x) = withPlace b k (placeWith Draft false (tariffOf x))
 changed b (OPEN k) = withPlace b k (withState Open (placeOf (b .places) k))
 changed b (CLOSE k) = withPlace b k (withState Draft (placeOf (b .places) k))
 changed b (DROP k) = withPlace b k empty
 changed b UNDO = restored b
 changed b (ASK k) = withPlace b k (withState Marked (placeOf (b .places) k))
 changed b (CONFIRM k) = withPlace b k (withState Open (placeOf (b .places) k))
+changed b (DIRECT k) = withPlace b k (withDirection (placeOf (b .places) k))
 
 -- what a call comes to: its answer and the book after it. "Any call refused changes nothing."
 pub record Effect : Type 0 where

@@ -30,6 +30,7 @@ pub data Act : Type 0 where
   UNDO : Act
   ASK : ℕ → Act
   CONFIRM : ℕ → Act
+  DIRECT : ℕ → Act
 
 -- a call: "a set of regions", the desk whose call it is, and what it asks; a call of a desk with all fourteen
 pub record Call : Type 0 where

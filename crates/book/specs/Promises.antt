@@ -1,4 +1,4 @@
--- What the code's answers say in document 01's words, and what each of the eight calls that may change the book promises.
+-- What the code's answers say in document 01's words, and what each of the nine calls that may change the book promises.
 -- Assumes nothing.
 use mathlib.Core.Path.{_≡_}
 use mathlib.Core.List.{List}

@@ -20,9 +20,10 @@ pub enum State {
     Open,
 }
 
-// A place: its state beside the tariff's numbers and arrays.
+// A place: its state, and whether its tariff is under a direction, beside the tariff's numbers and arrays.
 pub struct Place {
     pub state: State,
+    pub directed: bool,
     pub kind: u32,
     pub n: u32,
     pub standing: u32,
@@ -80,15 +81,16 @@ pub struct Done {
     pub book: Book,
 }
 
-// A tariff in a place.
-pub fn place_with(state: State, x: Tariff) -> Place
-    ensures { λ r. ⌜ r ≡ placeWith state x ⌝ }
+// A tariff in a place, under a direction or not.
+pub fn place_with(state: State, directed: bool, x: Tariff) -> Place
+    ensures { λ r. ⌜ r ≡ placeWith state directed x ⌝ }
 {
     let rates = x.rates;
     let steps = x.steps;
     let regional = x.regional;
     Place {
         state,
+        directed,
         kind: x.kind,
         n: x.n,
         standing: x.standing,
@@ -123,7 +125,7 @@ pub fn tariff_in(p: Place) -> Tariff
 pub fn in_state(p: Place, state: State) -> Place
     ensures { λ r. ⌜ r ≡ withState state p ⌝ }
 {
-    place_with(state, tariff_in(p))
+    place_with(state, p.directed, tariff_in(p))
 }
 
 // A place that holds nothing.
@@ -132,6 +134,7 @@ pub fn empty_place() -> Place
 {
     Place {
         state: State::Empty,
+        directed: false,
         kind: 0,
         n: 0,
         standing: 0,

@@ -18,7 +18,10 @@ use Rattle.cap.specs.declared.CellNumbers.{CellNumbers}
 unfoldable pub maximum : CellNumbers → ℕ → ℕ
 maximum e total = e .lower * e .months * e .m + 12 * (e .upper - e .lower) * total
 
--- M-103: "Every excess is now over 12,000 × m": the whole of the shares for the charge, 12 × m for the maximum.
+-- M-103: "Every excess is now over 12,000 × m": the whole of the shares for the charge, 12 × m for the maximum
+abbrev pub scale : CellNumbers → ℕ
+scale e = 12 * wholeShare * e .m
+
 -- the charge and the maximum, each times this scale
 unfoldable pub charged : CellNumbers → Tariff → List ℕ → ℕ
 charged e x months = 12 * e .m * charge (e .standing) (e .days) (e .peak) x months

@@ -31,7 +31,7 @@ const MONTH_MOST: u64 = 10_000;
 
 const BENCHMARK_MOST: u64 = 2_400_000_000;
 
-const SCALE: u64 = 12 * WHOLE;
+pub const SCALE: u64 = 12 * WHOLE;
 
 const ROOM: u64 = SCALE * BENCHMARK_MOST * MONTH_MOST;
 

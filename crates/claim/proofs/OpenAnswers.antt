@@ -1,8 +1,8 @@
--- What OPEN and ASK answer, by what is read from the accepted calls: of a draft under a sheet in force, the verdict on it. And CONFIRM: of a
--- marked draft, the number of its cells.
+-- What OPEN and ASK answer, by what is read from the accepted calls: of a draft under a sheet in force, the verdict on it, unless it is under a
+-- direction. And CONFIRM: of a marked draft, the number of its cells. And DIRECT.
 -- Assumes nothing.
 use mathlib.Core.Path.{_≡_, refl, sym, _∙_, ap, subst₂}
-use mathlib.Core.Bool.{Bool, true, false}
+use mathlib.Core.Bool.{Bool, true, false, cond}
 use mathlib.Core.Logic.{_↔_}
 use mathlib.Core.List.{List}
 use mathlib.Core.Option.{Option, none, some}
@@ -16,7 +16,7 @@ use Rattle.laws.proofs.Never.{never}
 use Rattle.tariff.specs.declared.Tariff.{Tariff}
 use Rattle.tariff.specs.Tariff.{validTariff}
 use Rattle.tariff.proofs.Validity.{valid-regions, valid-methods}
-use Rattle.desks.specs.Desks.{mayUse}
+use Rattle.desks.specs.Desks.{isFull, mayUse}
 use Rattle.cap.specs.declared.CellNumbers.{CellNumbers}
 use Rattle.cap.specs.Cap.{charged, capped, excess, Months, Exceeds, worstMonths}
 use Rattle.cap.specs.Deciding.{worst-months, exceeds-if}
@@ -24,10 +24,10 @@ use Rattle.cap.proofs.Worst.{excess-most, exceeds-at-worst, each-worst}
 use Rattle.verdict.specs.Cells.{Cell, Offered, cellNumbers, cellCount, verdictAt, verdict, firstOver}
 use Rattle.verdict.proofs.Meaning.{none-exceeds, first-exceeds}
 use Rattle.verdict.proofs.Count.{cells-counted}
-use Rattle.book.specs.Calls.{Sheet, Act, OPEN, CONFIRM, cells, refused, isNone}
+use Rattle.book.specs.Calls.{Sheet, Act, OPEN, CONFIRM, DIRECT, cells, refused, isNone}
 use Rattle.book.specs.Checks.{figuresOf, complies, inside, verdictAnswer, answer}
-use Rattle.history.specs.History.{sheetOf, tariffAt, openOf, markedOf, readingsOf}
-use Rattle.claim.specs.Claim.{numbersWith, excessIn, MonthsOf, ExceedsSomewhere, Shows, DraftWhere, OutsideDesk, cellsOffered, OpenAnswer, MarkedWith, ConfirmAnswer}
+use Rattle.history.specs.History.{sheetOf, tariffAt, directedOf, openOf, markedOf, readingsOf}
+use Rattle.claim.specs.Claim.{numbersWith, excessIn, MonthsOf, ExceedsSomewhere, Shows, DraftWhere, OutsideDesk, cellsOffered, cellsAnswered, OpenAnswer, MarkedWith, ConfirmAnswer, DirectAnswer}
 
 -- where a tariff does not exceed, no months are above the maximum
 at-most : (e : CellNumbers) (x : Tariff) → (Exceeds e x → ⊥) → (months : List ℕ) → Months (e .months) months → excess e x months ≤ℤ pos 0
@@ -89,7 +89,7 @@ same-count e = cc
 -- the answer to an OPEN or ASK of code k by a desk, where a code with a tariff is one of the 32 and its tariff is valid
 module _ (desk : ℕ) (log : List Act) (u : Bool) (k : ℕ) (known : (x : Tariff) → tariffAt log k ≡ some x → (inside k ≡ true) × (validTariff x ≡ true)) where
   abbrev AnyDraft : Type 0
-  AnyDraft = DraftWhere desk log k (λ s x. Unit {0})
+  AnyDraft = DraftWhere desk log k (λ d s x. Unit {0})
 
   -- a refusal but 11, where there is no draft under a sheet that the desk may use
   refuses : (n : ℕ) → (n ≡ 11 → ⊥) → (AnyDraft → ⊥) → ((n ≡ 17) ↔ OutsideDesk desk log k) → OpenAnswer desk log k (refused n)
@@ -117,33 +117,45 @@ module _ (desk : ℕ) (log : List Act) (u : Bool) (k : ℕ) (known : (x : Tariff
     inside-desk : mayUse desk (x .regions) ≡ true → OutsideDesk desk log k → ⊥
     inside-desk e d = never (let z = may-be true e (d .0) (d .1) in let w = d .2 in cc)
 
-    -- a draft under a sheet, which the desk may use: the verdict
+    -- a draft under a sheet, which the desk may use
     module _ (s : Sheet) (fs : sheetOf log ≡ some s) (fm : mayUse desk (x .regions) ≡ true) (fo : openOf log k ≡ false) where
-      same : (P : Sheet → Tariff → Type 0) → DraftWhere desk log k P → P s x
+      same : (P : Bool → Sheet → Tariff → Type 0) → DraftWhere desk log k P → P (directedOf log k) s x
       same P d =
           let es : sheetOf log ≡ some (d .0) = d .2 in
           let et : tariffAt log k ≡ some (d .1) = d .3 in
-          subst₂ P (cc) (cc) (d .6)
+          subst₂ (P (directedOf log k)) (cc) (cc) (d .6)
 
-      judged : (f : Option Cell) → firstOver (figuresOf s) x ≡ f → OpenAnswer desk log k (verdictAnswer (verdictAt (figuresOf s) x f))
-      judged none e =
+      abbrev Over : Bool → Sheet → Tariff → Type 0
+      Over d s x = (d ≡ false) × ExceedsSomewhere s x
+
+      abbrev Passes : ℕ → Bool → Sheet → Tariff → Type 0
+      Passes n d s x = (d ≡ false → ExceedsSomewhere s x → ⊥) × (n ≡ cellsAnswered d x)
+
+      -- accepted, with a number of cells
+      passed : (n : ℕ) → (directedOf log k ≡ false → ExceedsSomewhere s x → ⊥) → n ≡ cellsAnswered (directedOf log k) x → OpenAnswer desk log k (cells n)
+      passed n within counted =
           record {
-            over-exactly = (λ q. never (cc), λ d. absurd (nowhere s x e (same ExceedsSomewhere d)));
+            over-exactly = (λ q. never (cc), λ d. let w = same Over d in absurd (within (w .0) (w .1)));
             over-shows = λ q. never (cc);
-            accepted-exactly = λ n. (
-              λ q. (s, x, fs, ft, fm, fo, (nowhere s x e, sym (same-count q) ∙ cells-are x (known x ft .1))),
-              λ d. ap cells (cells-are x (known x ft .1) ∙ sym (same (λ s x. (ExceedsSomewhere s x → ⊥) × (n ≡ cellsOffered x)) d .1)),
+            accepted-exactly = λ m. (
+              λ q. (s, x, fs, ft, fm, fo, (within, sym (same-count q) ∙ counted)),
+              λ d. ap cells (counted ∙ sym (same (Passes m) d .1)),
             );
             outside-exactly = (λ q. never (cc), λ d. absurd (inside-desk fm d));
           }
-      judged (some c) e =
+
+      -- under a direction, 0 cells; and else the verdict
+      directed : directedOf log k ≡ true → OpenAnswer desk log k (cells 0)
+      directed fd = passed 0 (λ q. never (cc)) (sym (ap (λ d. cellsAnswered d x) fd))
+
+      judged : directedOf log k ≡ false → (f : Option Cell) → firstOver (figuresOf s) x ≡ f
+          → OpenAnswer desk log k (verdictAnswer (verdictAt (figuresOf s) x f))
+      judged fd none e = passed (cellCount x) (λ q. nowhere s x e) (cells-are x (known x ft .1) ∙ sym (ap (λ d. cellsAnswered d x) fd))
+      judged fd (some c) e =
           record {
-            over-exactly = (λ q. (s, x, fs, ft, fm, fo, somewhere s x c e), λ d. refl);
+            over-exactly = (λ q. (s, x, fs, ft, fm, fo, (fd, somewhere s x c e)), λ d. refl);
             over-shows = λ q. (c, _, _, refl, (s, x, fs, ft, fm, fo, shown s x c e));
-            accepted-exactly = λ n. (
-              λ q. never (cc),
-              λ d. absurd (same (λ s x. (ExceedsSomewhere s x → ⊥) × (n ≡ cellsOffered x)) d .0 (somewhere s x c e)),
-            );
+            accepted-exactly = λ n. (λ q. never (cc), λ d. absurd (same (Passes n) d .0 fd (somewhere s x c e)));
             outside-exactly = (λ q. absurd (let z : _≡_ {A = ℕ} 11 17 = cc in omega arith), λ d. absurd (inside-desk fm d));
           }
 
@@ -154,23 +166,24 @@ module _ (desk : ℕ) (log : List Act) (u : Bool) (k : ℕ) (known : (x : Tariff
 
   pub open-answer : OpenAnswer desk log k (answer desk (readingsOf log u) (OPEN k))
   unfolding verdict
-  open-answer = go (inside k) (tariffAt log k) (mayOf (tariffAt log k)) (openOf log k) (sheetOf log) refl refl refl refl refl
+  open-answer = go (inside k) (tariffAt log k) (mayOf (tariffAt log k)) (openOf log k) (sheetOf log) (directedOf log k) refl refl refl refl refl refl
     where
-      go : (i : Bool) (t : Option Tariff) (m o : Bool) (f : Option Sheet)
-          → inside k ≡ i → tariffAt log k ≡ t → mayOf t ≡ m → openOf log k ≡ o → sheetOf log ≡ f
+      go : (i : Bool) (t : Option Tariff) (m o : Bool) (f : Option Sheet) (d : Bool)
+          → inside k ≡ i → tariffAt log k ≡ t → mayOf t ≡ m → openOf log k ≡ o → sheetOf log ≡ f → directedOf log k ≡ d
           → OpenAnswer desk log k (answer desk (readingsOf log u) (OPEN k))
-      go false t m o f ei et em eo ef =
+      go false t m o f d ei et em eo ef ed =
           rw ei
           (earlier 6 (omega arith) (λ d. let e = known (d .1) (d .3) .0 in never (cc)) (λ d. let e = known (d .0) (d .1) .0 in never (cc)))
-      go true none m o f ei et em eo ef =
+      go true none m o f d ei et em eo ef ed =
           rw (ei, et) (earlier 9 (omega arith) (λ d. let e = d .3 in never (cc)) (λ d. let e = d .1 in never (cc)))
-      go true (some x) false o f ei et em eo ef = rw (ei, et, em) (outside x et em)
-      go true (some x) true true f ei et em eo ef =
+      go true (some x) false o f d ei et em eo ef ed = rw (ei, et, em) (outside x et em)
+      go true (some x) true true f d ei et em eo ef ed =
           rw (ei, et, em, eo) (earlier 7 (omega arith) (λ d. let e = d .5 in never (cc)) (inside-desk x et em))
-      go true (some x) true false none ei et em eo ef =
+      go true (some x) true false none d ei et em eo ef ed =
           rw (ei, et, em, eo, ef) (earlier 10 (omega arith) (λ d. let e = d .2 in never (cc)) (inside-desk x et em))
-      go true (some x) true false (some s) ei et em eo ef =
-          rw (ei, et, em, eo, ef) (judged x et s ef em eo (firstOver (figuresOf s) x) refl)
+      go true (some x) true false (some s) true ei et em eo ef ed = rw (ei, et, em, eo, ef, ed) (directed x et s ef em eo ed)
+      go true (some x) true false (some s) false ei et em eo ef ed =
+          rw (ei, et, em, eo, ef, ed) (judged x et s ef em eo ed (firstOver (figuresOf s) x) refl)
 
   -- the answer to a CONFIRM, where a marked code is a draft
   pub confirm-answer : ((x : Tariff) → tariffAt log k ≡ some x → markedOf log k ≡ true → openOf log k ≡ false)
@@ -188,8 +201,20 @@ module _ (desk : ℕ) (log : List Act) (u : Bool) (k : ℕ) (known : (x : Tariff
           rw (ei, et, ea, eo) (λ q. never (cc), λ d. let e = shut (d .0) (et ∙ d .1) (d .3) in never (cc))
       go true (some x) true false false ei et ea eo em = rw (ei, et, ea, eo, em) (λ q. never (cc), λ d. let e = d .3 in never (cc))
       go true (some x) true false true ei et ea eo em =
-          let count = cells-are x (known x et .1) in
+          let count = ap (cond (directedOf log k) 0) (cells-are x (known x et .1)) in
           rw (ei, et, ea, eo, em) (
             λ q. (x, refl, ea, refl, sym (same-count q) ∙ count),
-            λ d. let same : x ≡ d .0 = (let e = d .1 in cc) in ap cells (count ∙ ap cellsOffered same ∙ sym (d .4)),
+            λ d. let same : x ≡ d .0 = (let e = d .1 in cc) in ap cells (count ∙ ap (cellsAnswered (directedOf log k)) same ∙ sym (d .4)),
           )
+
+  -- the answer to a DIRECT
+  pub direct-answer : DirectAnswer desk log k (answer desk (readingsOf log u) (DIRECT k))
+  direct-answer = go (isFull desk) (inside k) (tariffAt log k) (openOf log k) refl refl refl refl
+    where
+      go : (f i : Bool) (t : Option Tariff) (o : Bool) → isFull desk ≡ f → inside k ≡ i → tariffAt log k ≡ t → openOf log k ≡ o
+          → DirectAnswer desk log k (answer desk (readingsOf log u) (DIRECT k))
+      go false i t o ef ei et eo = rw ef (λ q. never (cc), λ d. let e = d .0 in never (cc))
+      go true false t o ef ei et eo = rw (ef, ei) (λ q. never (cc), λ d. let e = known (d .1) (d .2) .0 in never (cc))
+      go true true none o ef ei et eo = rw (ef, ei, et) (λ q. never (cc), λ d. let e = d .2 in never (cc))
+      go true true (some x) true ef ei et eo = rw (ef, ei, et, eo) (λ q. never (cc), λ d. let e = d .3 in never (cc))
+      go true true (some x) false ef ei et eo = rw (ef, ei, et, eo) (λ q. (refl, x, refl, refl), λ d. refl)

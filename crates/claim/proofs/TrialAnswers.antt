@@ -1,7 +1,7 @@
 -- What TRIAL tells, by what is read from the accepted calls: the codes that a SET made in its place would send back to draft.
 -- Assumes nothing.
 use mathlib.Core.Path.{_≡_, refl, sym, _∙_, ap, ap₂, subst}
-use mathlib.Core.Bool.{Bool, true, false, cond, _&&_}
+use mathlib.Core.Bool.{Bool, true, false, cond, _&&_, _||_}
 use mathlib.Core.List.{List, [], _∷_}
 use mathlib.Core.Logic.{_↔_}
 use mathlib.Core.Option.{Option, none, some}
@@ -18,7 +18,7 @@ use Rattle.laws.proofs.Never.{never}
 use Rattle.laws.proofs.Sets.{bit-of-set, bit-past-set}
 use Rattle.tariff.specs.declared.Tariff.{Tariff}
 use Rattle.book.specs.declared.Book.{Book}
-use Rattle.book.specs.Calls.{Sheet, Act, SET, PUT, OPEN, CLOSE, DROP, UNDO, ASK, CONFIRM, Call, by, refusalNumber, isAccepted}
+use Rattle.book.specs.Calls.{Sheet, Act, SET, PUT, OPEN, CLOSE, DROP, UNDO, ASK, CONFIRM, DIRECT, Call, by, refusalNumber, isAccepted}
 use Rattle.book.specs.Checks.{Holding, isOpen, inside, setAnswer, answer}
 use Rattle.book.specs.Book.{bookReadings, step}
 use Rattle.book.proofs.Places.{code-range}
@@ -26,7 +26,7 @@ use Rattle.book.proofs.Accepted.{confirm-accepted, open-accepted}
 use Rattle.stands.proofs.Kept.{none-of}
 use Rattle.queries.specs.Queries.{refused, falling}
 use Rattle.trial.specs.Trial.{isDraft, falls, codesWhere, toldUnless, trialOf}
-use Rattle.history.specs.History.{sheetOf, tariffAt, openOf, markedOf, staysOpen, effective, undoable, heldAs, readingsOf, readings, noted, logAfter}
+use Rattle.history.specs.History.{sheetOf, tariffAt, directedOf, openOf, markedOf, staysOpen, effective, undoable, heldAs, readingsOf, readings, noted, logAfter}
 use Rattle.history.proofs.Readings.{held-read}
 use Rattle.claim.specs.Claim.{WouldFall, TrialAnswer}
 
@@ -41,18 +41,18 @@ module _ (log : List Act) (u : Bool) (has : Tariffed log) where
   not-open k t false e = has k e
 
   -- and after one that leaves code j open, where its place holds something
-  opened : (j k : ℕ) (h : Holding) → heldAs (tariffAt log j) (openOf log j) (markedOf log j) ≡ some h
+  opened : (j k : ℕ) (h : Holding) → heldAs (tariffAt log j) (openOf log j) (markedOf log j) (directedOf log j) ≡ some h
       → (c : Bool) → eqb j k ≡ c → cond c true (openOf log k) ≡ true → (x : Tariff) × (tariffAt log k ≡ some x)
   opened j k h its true q o =
       subst (λ i. (x : Tariff) × (tariffAt log i ≡ some x)) (eqb-true j k q)
-      (h .tariff, held-read (tariffAt log j) (openOf log j) (markedOf log j) h its .0)
+      (h .tariff, held-read (tariffAt log j) (openOf log j) (markedOf log j) (directedOf log j) h its .0)
   opened j k h its false q o = has k o
 
   tariffed-act : (desk : ℕ) (a : Act) → isAccepted (answer desk (readingsOf log u) a) ≡ true → Tariffed (a ∷ log)
-  tariffed-act desk (SET s) e k o = has k (and-left (openOf log k) (staysOpen s (tariffAt log k)) o)
+  tariffed-act desk (SET s) e k o = has k (and-left (openOf log k) (directedOf log k || staysOpen s (tariffAt log k)) o)
   tariffed-act desk (PUT j x) e k o = not-open k _ (eqb j k) o
   tariffed-act desk (OPEN j) e k o =
-      let f = open-accepted desk j (heldAs (tariffAt log j) (openOf log j) (markedOf log j)) (sheetOf log) e in
+      let f = open-accepted desk j (heldAs (tariffAt log j) (openOf log j) (markedOf log j) (directedOf log j)) (sheetOf log) e in
       opened j k (f .h) (f .its) (eqb j k) refl o
   tariffed-act desk (CLOSE j) e k o = closed (eqb j k) o
     where
@@ -63,8 +63,9 @@ module _ (log : List Act) (u : Bool) (has : Tariffed log) where
   tariffed-act desk UNDO e k o = has k o
   tariffed-act desk (ASK j) e k o = has k o
   tariffed-act desk (CONFIRM j) e k o =
-      let f = confirm-accepted desk j (heldAs (tariffAt log j) (openOf log j) (markedOf log j)) e in
+      let f = confirm-accepted desk j (heldAs (tariffAt log j) (openOf log j) (markedOf log j) (directedOf log j)) e in
       opened j k (f .1) (f .2) (eqb j k) refl o
+  tariffed-act desk (DIRECT j) e k o = has k o
 
 -- so it is of a log and of what is left of it without its newest calls, whichever of them UNDO may take back
 abbrev pub AlwaysTariffed : List Act → Type 0
@@ -91,6 +92,7 @@ module _ (log : List Act) (has : AlwaysTariffed (effective log)) where
   noted-act desk UNDO e = some-less 1 (effective log) has
   noted-act desk (ASK j) e = one-more (ASK j) (effective log) (tariffed-act (effective log) (undoable log) (has 0) desk (ASK j) e) has
   noted-act desk (CONFIRM j) e = one-more (CONFIRM j) (effective log) (tariffed-act (effective log) (undoable log) (has 0) desk (CONFIRM j) e) has
+  noted-act desk (DIRECT j) e = one-more (DIRECT j) (effective log) (tariffed-act (effective log) (undoable log) (has 0) desk (DIRECT j) e) has
 
   tariffed-noted : (c : Call) → AlwaysTariffed (effective (noted log c))
   tariffed-noted c = go (isAccepted (answer (c .desk) (readings log) (c .act))) refl
@@ -110,12 +112,12 @@ told-refusal none codes n = (λ e. never (cc), λ e. never (cc))
 told-refusal (some m) codes n = (λ e. cc, λ e. cc)
 
 -- open before and a draft after, of a code whose tariff stays
-fall-exactly : (t : Option Tariff) (o q m n : Bool) → (o ≡ true → (x : Tariff) × (t ≡ some x))
-    → ((isOpen (heldAs t o m) && isDraft (heldAs t q n)) ≡ true) ↔ ((o ≡ true) × (q ≡ false))
-fall-exactly none o q m n h = (λ e. never (cc), λ e. let f = h (e .0) .1 in never (cc))
-fall-exactly (some x) false q m n h = (λ e. never (cc), λ e. never (let z = e .0 in cc))
-fall-exactly (some x) true true m n h = (λ e. never (cc), λ e. never (let z = e .1 in cc))
-fall-exactly (some x) true false m n h = (λ e. (refl, refl), λ e. refl)
+fall-exactly : (t : Option Tariff) (o q m n d : Bool) → (o ≡ true → (x : Tariff) × (t ≡ some x))
+    → ((isOpen (heldAs t o m d) && isDraft (heldAs t q n d)) ≡ true) ↔ ((o ≡ true) × (q ≡ false))
+fall-exactly none o q m n d h = (λ e. never (cc), λ e. let f = h (e .0) .1 in never (cc))
+fall-exactly (some x) false q m n d h = (λ e. never (cc), λ e. never (let z = e .0 in cc))
+fall-exactly (some x) true true m n d h = (λ e. never (cc), λ e. never (let z = e .1 in cc))
+fall-exactly (some x) true false m n d h = (λ e. (refl, refl), λ e. refl)
 
 -- a TRIAL on a book of which the checks read what they read from the log, before a SET and after it
 module _ (desk : ℕ) (log : List Act) (u : Bool) (b : Book) (s : Sheet) (same : bookReadings b ≡ readingsOf log u)
@@ -125,7 +127,7 @@ module _ (desk : ℕ) (log : List Act) (u : Bool) (b : Book) (s : Sheet) (same :
   next = SET s ∷ log
 
   falls-read : (k : ℕ) → falls b (step b (by desk (SET s)) .book) k
-      ≡ (isOpen (heldAs (tariffAt log k) (openOf log k) (markedOf log k)) && isDraft (heldAs (tariffAt log k) (openOf next k) false))
+      ≡ (isOpen (heldAs (tariffAt log k) (openOf log k) (markedOf log k) (directedOf log k)) && isDraft (heldAs (tariffAt log k) (openOf next k) false (directedOf log k)))
   falls-read k = ap₂ (λ r q. isOpen (r .held k) && isDraft (q .held k)) same after
 
   codes-are : (i : ℕ) → (bit (codesWhere (falls b (step b (by desk (SET s)) .book))) i ≡ true) ↔ WouldFall log s i
@@ -134,8 +136,8 @@ module _ (desk : ℕ) (log : List Act) (u : Bool) (b : Book) (s : Sheet) (same :
       test : ℕ → Bool
       test j = falls b (step b (by desk (SET s)) .book) (suc j)
 
-      f : ((isOpen (heldAs (tariffAt log (suc i)) (openOf log (suc i)) (markedOf log (suc i))) && isDraft (heldAs (tariffAt log (suc i)) (openOf next (suc i)) false)) ≡ true) ↔ WouldFall log s i
-      f = fall-exactly (tariffAt log (suc i)) (openOf log (suc i)) (openOf next (suc i)) (markedOf log (suc i)) false (has (suc i))
+      f : ((isOpen (heldAs (tariffAt log (suc i)) (openOf log (suc i)) (markedOf log (suc i)) (directedOf log (suc i))) && isDraft (heldAs (tariffAt log (suc i)) (openOf next (suc i)) false (directedOf log (suc i)))) ≡ true) ↔ WouldFall log s i
+      f = fall-exactly (tariffAt log (suc i)) (openOf log (suc i)) (openOf next (suc i)) (markedOf log (suc i)) false (directedOf log (suc i)) (has (suc i))
 
       go : Dec (i < 32) → (bit (setOf 32 test) i ≡ true) ↔ WouldFall log s i
       go (yes h) = (λ e. f .0 (sym (bit-of-set 32 test i h ∙ falls-read (suc i)) ∙ e), λ w. bit-of-set 32 test i h ∙ falls-read (suc i) ∙ f .1 w)

@@ -5,22 +5,19 @@ use mathlib.Core.Path.{_≡_}
 use mathlib.Core.Bool.{Bool, true}
 use Prim.Native.Nat.{ℕ}
 use Rattle.refusal.specs.declared.Check.{Check}
-use Rattle.refusal.specs.declared.Check.the-variants.{Pass}
-use Rattle.refusal.specs.Checks.{unless, first}
 use Rattle.benchmark.specs.declared.Benchmarks.{Benchmarks}
 use Rattle.benchmark.specs.Lawful.{Lawful}
-use Rattle.desks.specs.Desks.{mayUse}
-use Rattle.verdict.specs.Cells.{cellCount, verdict}
 use Rattle.book.specs.declared.State.{State}
 use Rattle.book.specs.declared.State.the-variants as state
 use Rattle.book.specs.declared.Place.{Place}
 use Rattle.book.specs.declared.Settled.{Settled}
 use Rattle.book.specs.declared.Book.{Book}
-use Rattle.book.specs.Calls.{Act, OPEN, CLOSE, DROP, ASK, CONFIRM, Answer, accepted, cells}
-use Rattle.book.specs.Checks.{verdictAnswer}
+use Rattle.book.specs.Calls.{Act, OPEN, CLOSE, DROP, ASK, CONFIRM, Answer, accepted}
+use Rattle.book.specs.Checks.{openedAs, confirmedAs}
 use Rattle.book.specs.Book.{empty, tariffIn, withState, Reachable}
-use Rattle.book.specs.Settling.{openCheck, closedCheck, markCheck, heldCheck, Settles}
+use Rattle.book.specs.Settling.{openCheck, closedCheck, Settles}
 use Rattle.stands.specs.Stands.{HoldsValid}
+use Rattle.opening.specs.Opening.{usableCheck, openRest, confirmRest}
 use Rattle.codes.specs.declared.CodeAct.{CodeAct}
 use Rattle.codes.specs.declared.CodeAct.the-variants.{Open, Close, Drop, Ask, Confirm}
 
@@ -31,27 +28,20 @@ actOn Drop k = DROP k
 actOn Ask k = ASK k
 actOn Confirm k = CONFIRM k
 
--- 6, 9 and 17, and then the checks of a call's own
-abbrev pub usableCheck : ℕ → ℕ → Place → Check → Check
-usableCheck desk k p next = heldCheck k (p .state) (first (unless (mayUse desk (p .regions)) 17 Pass) next)
-
--- behind these: of OPEN and ASK, and of each
-abbrev pub openRest : State → (loaded : Bool) → Check
-openRest s loaded = first (openCheck s) (unless loaded 10 Pass)
-
+-- behind 6, 9 and 17
 abbrev pub restOn : CodeAct → State → (loaded : Bool) → Check
 restOn Open s loaded = openRest s loaded
 restOn Close s loaded = closedCheck s
 restOn Drop s loaded = openCheck s
 restOn Ask s loaded = openRest s loaded
-restOn Confirm s loaded = first (openCheck s) (markCheck s)
+restOn Confirm s loaded = confirmRest s
 
 abbrev pub nextOn : CodeAct → Benchmarks → Place → Answer
-nextOn Open figures p = verdictAnswer (verdict figures (tariffIn p))
+nextOn Open figures p = openedAs (p .directed) figures (tariffIn p)
 nextOn Close figures p = accepted
 nextOn Drop figures p = accepted
-nextOn Ask figures p = verdictAnswer (verdict figures (tariffIn p))
-nextOn Confirm figures p = cells (cellCount (tariffIn p))
+nextOn Ask figures p = openedAs (p .directed) figures (tariffIn p)
+nextOn Confirm figures p = confirmedAs (p .directed) (tariffIn p)
 
 abbrev pub placeOn : CodeAct → Place → Place
 placeOn Open p = withState state.Open p
@@ -64,11 +54,6 @@ placeOn Confirm p = withState state.Open p
 abbrev pub SettlesOn : CodeAct → ℕ → ℕ → Place → Bool → Benchmarks → Settled → Type 0
 SettlesOn a desk k p loaded figures r =
     Settles (usableCheck desk k p (restOn a (p .state) loaded)) (nextOn a figures p) p (placeOn a p) r
-
--- what OPEN and ASK share: the checks, and behind them the verdict, with the draft in that state where it is accepted
-abbrev pub OpensAs : State → ℕ → ℕ → Place → Bool → Benchmarks → Settled → Type 0
-OpensAs s desk k p loaded figures r =
-    Settles (usableCheck desk k p (openRest (p .state) loaded)) (verdictAnswer (verdict figures (tariffIn p))) p (withState s p) r
 
 -- only OPEN and ASK judge a tariff, and ask something of the place and the figures, and of the book
 abbrev pub Judgeable : CodeAct → Place → Bool → Benchmarks → Type 0

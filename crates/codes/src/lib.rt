@@ -1,29 +1,21 @@
-// The calls that take a code alone: OPEN, ASK, CONFIRM, CLOSE and DROP.
+// The calls that take a code alone: OPEN, ASK and CONFIRM, whose checks are in crate opening, CLOSE and DROP.
 // Promise: each answers and leaves what `step` of the book's definitions says of its desk, on refused input too; 11 carries the first cell that
 // exceeds, t months and their excess. `act_on` is their one body: they differ in what they do to one place. OPEN and ASK, which share their
 // checks, require document 01's own sentence on the book, `Reachable`; the others require nothing. Who holds a book in a local of their own may
 // settle a place (`settle`) and store it, which copies no book and is the same call: its contract says so of every book that has the place
 // (`HasPlace` of the book's definitions).
-ghost use mathlib.Core.Path.{_≡_};
-ghost use mathlib.Core.Bool.{true};
 ghost use Prim.Native.Nat.{ℕ};
-ghost use Rattle.benchmark.specs.declared.Benchmarks.{Benchmarks};
-ghost use Rattle.benchmark.specs.Lawful.{Lawful};
 ghost use Rattle.book.specs.declared.Book.{Book};
 ghost use Rattle.book.specs.Calls.{by};
 ghost use Rattle.book.specs.Promises.{Does};
 ghost use Rattle.book.specs.Settling.{settledIn, HasPlace};
-ghost use Rattle.stands.specs.Stands.{HoldsValid};
-ghost use Rattle.codes.specs.Codes.{actOn, usableCheck, OpensAs, SettlesOn, Judgeable, Handed};
+ghost use Rattle.codes.specs.Codes.{actOn, SettlesOn, Judgeable, Handed};
 use benchmark::Benchmarks;
 use book::Book;
 use book::Done;
 use book::Place;
-use book::Reply;
 use book::Settled;
 use book::State;
-use refusal::Check;
-use verdict::Outcome;
 
 // The calls that take a code alone.
 pub enum CodeAct {
@@ -34,77 +26,11 @@ pub enum CodeAct {
     Confirm,
 }
 
-// 6, 9 and 17, and then what a call on the place of a code checks besides.
-fn usable_check(desk: u32, code: u32, p: Place, next: Check) -> Check
-    ensures { λ r. ⌜ r ≡ usableCheck desk code p next ⌝ }
-{
-    let found = checks::held_check(code, p, Check::Pass);
-    let reached = desks::use_check(desk, p.regions);
-    refusal::first(found, refusal::first(reached, next))
-}
-
-// OPEN and ASK (code). 6, 9, 17, 7, 10, 11. Else the draft goes to that state, open or marked; the answer carries the number of cells.
-fn open_as(
-    state: State,
-    desk: u32,
-    code: u32,
-    p: Place,
-    loaded: bool,
-    figures: Benchmarks,
-) -> Settled
-    requires { ⌜ (loaded ≡ true → Lawful figures) × HoldsValid p ⌝ }
-    ensures { λ r. ⌜ OpensAs state desk code p loaded figures r ⌝ }
-{
-    let shut = checks::open_check(p);
-    let sheet = checks::sheet_check(loaded);
-    let checked = usable_check(desk, code, p, refusal::first(shut, sheet));
-    let Check::Pass = checked else {
-        return book::settled_by(checked, p, p);
-    };
-    let passed = book::in_state(p, state);
-    let ruling = verdict::verdict_of(figures, book::tariff_in(p));
-    let outcome = ruling.outcome;
-    match outcome {
-        Outcome::Opens(cells) => Settled {
-            reply: Reply::Cells(cells),
-            months: [0; 12],
-            place: passed,
-        },
-        Outcome::Over(region, method, excess) => {
-            let months = ruling.months;
-            Settled {
-                reply: Reply::Over(region, method, figures.months, excess),
-                months,
-                place: p,
-            }
-        }
-    }
-}
-
-// CONFIRM (code). 6, 9, 17, 7, 16. Else open; the answer carries the number of cells.
-fn confirm_at(desk: u32, code: u32, p: Place, loaded: bool, figures: Benchmarks) -> Settled
-    ensures { λ r. ⌜ SettlesOn CodeAct.Confirm desk code p loaded figures r ⌝ }
-{
-    let shut = checks::open_check(p);
-    let mark = checks::mark_check(p);
-    let checked = usable_check(desk, code, p, refusal::first(shut, mark));
-    let Check::Pass = checked else {
-        return book::settled_by(checked, p, p);
-    };
-    let offered = verdict::cell_count(book::tariff_in(p));
-    let opened = book::in_state(p, State::Open);
-    Settled {
-        reply: Reply::Cells(offered),
-        months: [0; 12],
-        place: opened,
-    }
-}
-
 // CLOSE (code). 6, 9, 17, 12. Else a draft again.
 fn close_at(desk: u32, code: u32, p: Place, loaded: bool, figures: Benchmarks) -> Settled
     ensures { λ r. ⌜ SettlesOn CodeAct.Close desk code p loaded figures r ⌝ }
 {
-    let checked = usable_check(desk, code, p, checks::closed_check(p));
+    let checked = opening::usable_check(desk, code, p, checks::closed_check(p));
     book::settled_by(checked, p, book::in_state(p, State::Draft))
 }
 
@@ -112,7 +38,7 @@ fn close_at(desk: u32, code: u32, p: Place, loaded: bool, figures: Benchmarks) -
 fn drop_at(desk: u32, code: u32, p: Place, loaded: bool, figures: Benchmarks) -> Settled
     ensures { λ r. ⌜ SettlesOn CodeAct.Drop desk code p loaded figures r ⌝ }
 {
-    let checked = usable_check(desk, code, p, checks::open_check(p));
+    let checked = opening::usable_check(desk, code, p, checks::open_check(p));
     let nothing = book::empty_place();
     book::settled_by(checked, p, nothing)
 }
@@ -130,11 +56,11 @@ pub fn settle(
     ensures { λ r. ⌜ SettlesOn act desk code p loaded figures r × ((b : Book) (i : ℕ) → HasPlace b code i p loaded figures → Does b (by desk (actOn act code)) (settledIn b i r)) ⌝ }
 {
     match act {
-        CodeAct::Open => open_as(State::Open, desk, code, p, loaded, figures),
+        CodeAct::Open => opening::open_as(State::Open, desk, code, p, loaded, figures),
         CodeAct::Close => close_at(desk, code, p, loaded, figures),
         CodeAct::Drop => drop_at(desk, code, p, loaded, figures),
-        CodeAct::Ask => open_as(State::Marked, desk, code, p, loaded, figures),
-        CodeAct::Confirm => confirm_at(desk, code, p, loaded, figures),
+        CodeAct::Ask => opening::open_as(State::Marked, desk, code, p, loaded, figures),
+        CodeAct::Confirm => opening::confirm_at(desk, code, p),
     }
 }
 

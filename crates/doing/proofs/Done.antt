@@ -11,8 +11,8 @@ use Rattle.book.specs.Promises.{answerOf, Does}
 use Rattle.book.proofs.Reached.{does-reachable}
 use Rattle.queries.specs.Queries.{Telling}
 use Rattle.texts.specs.Writing.{Puts}
-use Rattle.request.specs.declared.Query.{Query}
-use Rattle.request.specs.declared.Word.the-variants.{Tells}
+use Rattle.naming.specs.declared.Query.{Query}
+use Rattle.naming.specs.declared.Word.the-variants.{Tells}
 use Rattle.answers.specs.Answers.{answerText, toldText}
 use Rattle.protocol.specs.Lines.{toldOf, stepLine, callLine}
 use Rattle.protocol.specs.Promises.{Answered}

@@ -4,7 +4,7 @@
 // only where a call needs it, and handed back by SET and UNDO alone; a call on a code takes and returns one place, and the caller stores it in its
 // own book, with what is kept for UNDO (`HasPlace`, `storedIn`).
 ghost use mathlib.Core.Path.{_≡_};
-ghost use Prim.Native.Nat.{ℕ, _+_, _≤_};
+ghost use Prim.Native.Nat.{ℕ, _+_, _*_, _≤_};
 ghost use lib.ListN.{length, getD};
 ghost use Rattle.book.specs.declared.Book.{Book};
 ghost use Rattle.book.specs.Calls.{UNDO, by};
@@ -12,11 +12,11 @@ ghost use Rattle.book.specs.Book.{Reachable};
 ghost use Rattle.book.specs.Promises.{Does};
 ghost use Rattle.book.specs.Settling.{storedIn, settledIn, HasPlace};
 ghost use Rattle.queries.specs.Queries.{tellingOf};
-ghost use Rattle.request.specs.Requests.{arity, RightCount};
-ghost use Rattle.request.specs.declared.Word.the-variants.{Tells};
-ghost use Rattle.answers.specs.Answers.{answerRoom};
+ghost use Rattle.naming.specs.Naming.{accountNumbers, arity, RightCount};
+ghost use Rattle.naming.specs.declared.Word.the-variants.{Tells};
+ghost use Rattle.answers.specs.Answers.{accountsMost, answerRoom};
 ghost use Rattle.protocol.specs.Lines.{periodOf, onOf, toldOf, stepLine, callLine};
-ghost use Rattle.protocol.specs.Promises.{Answered};
+ghost use Rattle.protocol.specs.Promises.{asking, Answered};
 use benchmark::Benchmarks;
 use book::Book;
 use book::Place;
@@ -24,10 +24,11 @@ use book::Reply;
 use book::Settled;
 use calendar::Period;
 use codes::CodeAct;
+use naming::CodeStep;
+use naming::Query;
+use naming::Word;
+use protocol::Question;
 use queries::Told;
-use request::CodeStep;
-use request::Query;
-use request::Word;
 
 // The period of a sheet that is set or tried: year, month and t.
 fn period_of(numbers: &[u32]) -> Period
@@ -61,19 +62,22 @@ fn told(b: Book, desk: u32, query: Query, numbers: &[u32]) -> Told
     }
 }
 
-// A call that tells, and its answer.
+// A call that leaves the book as it is, and its answer.
 pub fn do_tell(
     b: Book,
     desk: u32,
-    query: Query,
+    question: Question,
     numbers: &[u32],
     out: &mut [u8],
     at: usize,
 ) -> usize
-    requires { ⌜ Reachable b × RightCount (arity (Tells query)) (length (now numbers)) × (at + answerRoom ≤ length (now out)) ⌝ }
-    ensures { λ r. ⌜ Answered (callLine b desk (Tells query) (now (numbers .entry))) b (now (out .entry)) at r (now (out .exit)) ⌝ }
+    requires { ⌜ Reachable b × RightCount (arity (asking question)) (length (now numbers)) × (length (now numbers) ≤ accountsMost * accountNumbers) × (at + answerRoom ≤ length (now out)) ⌝ }
+    ensures { λ r. ⌜ Answered (callLine b desk (asking question) (now (numbers .entry))) b (now (out .entry)) at r (now (out .exit)) ⌝ }
 {
-    answers::put_told(out, at, told(b, desk, query, numbers))
+    match question {
+        Question::Of(query) => answers::put_told(out, at, told(b, desk, query, numbers)),
+        Question::Rebate => rebating::answer_rebate(b, desk, numbers, out, at),
+    }
 }
 
 // The book after SET or UNDO, and the place behind its answer.
@@ -132,6 +136,7 @@ fn settled(
         CodeStep::Drop => codes::settle(desk, CodeAct::Drop, numbers[0], p, loaded, figures),
         CodeStep::Ask => codes::settle(desk, CodeAct::Ask, numbers[0], p, loaded, figures),
         CodeStep::Confirm => codes::settle(desk, CodeAct::Confirm, numbers[0], p, loaded, figures),
+        CodeStep::Direct => directing::direct_at(desk, numbers[0], p),
     }
 }
 

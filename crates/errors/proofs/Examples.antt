@@ -2,9 +2,9 @@
 -- Assumes nothing.
 use mathlib.Core.Path.{_≡_, refl}
 use Rattle.texts.specs.Texts.{bytesOf, digitsWithin, decimal}
-use Rattle.request.specs.declared.CodeStep.the-variants.{Put, Open}
-use Rattle.request.specs.declared.Query.the-variants.{Benchmark}
-use Rattle.request.specs.declared.Word.the-variants.{Set, Undo, On, Tells}
+use Rattle.naming.specs.declared.CodeStep.the-variants.{Put, Open, Direct}
+use Rattle.naming.specs.declared.Query.the-variants.{Benchmark}
+use Rattle.naming.specs.declared.Word.the-variants.{Set, Undo, On, Tells, Rebate}
 use Rattle.request.specs.declared.Request.the-variants.{NoCall, NotANumber, WrongCount}
 use Rattle.errors.specs.Errors.{problemText}
 
@@ -24,9 +24,17 @@ one : problemText 12 (WrongCount (On Open)) ≡ bytesOf "error line 12: open tak
 unfolding decimal digitsWithin
 one = refl
 
+direct : problemText 12 (WrongCount (On Direct)) ≡ bytesOf "error line 12: direct takes 1 number\n"
+unfolding decimal digitsWithin
+direct = refl
+
 four : problemText 12 (WrongCount (Tells Benchmark)) ≡ bytesOf "error line 12: benchmark takes 4 numbers\n"
 unfolding decimal digitsWithin
 four = refl
+
+rebate : problemText 12 (WrongCount Rebate) ≡ bytesOf "error line 12: rebate takes 16 numbers an account\n"
+unfolding decimal digitsWithin
+rebate = refl
 
 no-number : problemText 12 (NotANumber 2) ≡ bytesOf "error line 12: word 2 is not a number from 0 to 4294967295\n"
 unfolding decimal digitsWithin

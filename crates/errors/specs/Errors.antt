@@ -5,11 +5,11 @@ use mathlib.Core.List.{List, [], _++_}
 use Prim.Native.Nat.{ℕ}
 use lib.Dec.{eqb}
 use Rattle.texts.specs.Texts.{bytesOf, decimal}
-use Rattle.request.specs.declared.Arity.{Arity}
-use Rattle.request.specs.declared.Arity.the-variants.{Exactly, AtLeast}
+use Rattle.naming.specs.declared.Arity.{Arity}
+use Rattle.naming.specs.declared.Arity.the-variants.{Exactly, AtLeast, Each}
+use Rattle.naming.specs.Naming.{nameOf, arity}
 use Rattle.request.specs.declared.Request.{Request}
 use Rattle.request.specs.declared.Request.the-variants.{Nothing, Asks, NoCall, Unknown, NotANumber, WrongCount}
-use Rattle.request.specs.Requests.{nameOf, arity}
 
 -- error line L: WHAT
 abbrev pub errorStart : ℕ → List ℕ
@@ -28,6 +28,7 @@ countText text n = text ++ decimal n ++ cond (eqb n 1) (bytesOf " number\n") (by
 abbrev pub arityText : Arity → List ℕ
 arityText (Exactly n) = cond (eqb n 0) (bytesOf " takes no number\n") (countText (bytesOf " takes ") n)
 arityText (AtLeast n) = countText (bytesOf " takes at least ") n
+arityText (Each n) = bytesOf " takes " ++ decimal n ++ bytesOf " numbers an account\n"
 
 -- what is answered, at line l, to a line that is no call
 abbrev pub problemText : ℕ → Request → List ℕ

@@ -5,11 +5,11 @@ ghost use mathlib.Core.List.{_++_};
 ghost use Prim.Native.Nat.{_+_, _≤_};
 ghost use lib.ListN.{length};
 ghost use Rattle.texts.specs.Writing.{Puts};
-ghost use Rattle.request.specs.Requests.{nameOf, arity};
+ghost use Rattle.naming.specs.Naming.{nameOf, arity};
 ghost use Rattle.errors.specs.Errors.{errorRoom, errorStart, tooLong, notANumberText, countText, arityText, problemText};
-use request::Arity;
+use naming::Arity;
+use naming::Word;
 use request::Request;
-use request::Word;
 
 // error line L:
 fn put_error(out: &mut [u8], at: usize, l: u64) -> usize
@@ -62,9 +62,9 @@ fn put_count(out: &mut [u8], at: usize, text: &[u8], n: usize) -> usize
     texts::put_numbered(out, at, text, n as u64, b" numbers\n")
 }
 
-// takes N numbers, or none, or at least N
+// takes N numbers, or none, or at least N, or N an account
 fn put_arity(out: &mut [u8], at: usize, arity: Arity) -> usize
-    requires { ⌜ at + 45 ≤ length (now out) ⌝ }
+    requires { ⌜ at + 47 ≤ length (now out) ⌝ }
     ensures { λ r. ⌜ Puts (now (out .entry)) at (arityText arity) r (now (out .exit)) ⌝ }
 {
     match arity {
@@ -75,6 +75,13 @@ fn put_arity(out: &mut [u8], at: usize, arity: Arity) -> usize
             put_count(out, at, b" takes ", n)
         }
         Arity::AtLeast(n) => put_count(out, at, b" takes at least ", n),
+        Arity::Each(n) => texts::put_numbered(
+            out,
+            at,
+            b" takes ",
+            n as u64,
+            b" numbers an account\n",
+        ),
     }
 }
 
@@ -83,7 +90,7 @@ fn put_wrong_count(out: &mut [u8], at: usize, word: Word) -> usize
     requires { ⌜ at + 64 ≤ length (now out) ⌝ }
     ensures { λ r. ⌜ Puts (now (out .entry)) at (nameOf word ++ arityText (arity word)) r (now (out .exit)) ⌝ }
 {
-    let form = request::form_of(word);
+    let form = naming::form_of(word);
     let name = form.name;
     let size = form.size;
     let arity = form.arity;

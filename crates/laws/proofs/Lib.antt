@@ -7,6 +7,7 @@ pub mod Bounds
 pub mod Sums
 pub mod Differences
 pub mod Greatest
+pub mod Least
 pub mod Never
 pub mod Signed
 pub mod Pieces

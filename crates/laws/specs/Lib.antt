@@ -1,2 +1,3 @@
 pub mod Notions
 pub mod Greatest
+pub mod Least

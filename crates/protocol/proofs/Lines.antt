@@ -13,7 +13,7 @@ use Rattle.book.specs.Calls as call
 use Rattle.book.specs.Book.{Reachable}
 use Rattle.texts.specs.Writing.{Puts}
 use Rattle.lines.specs.Words.{longestLine, withoutReturn}
-use Rattle.request.specs.declared.Word.{Word}
+use Rattle.naming.specs.declared.Word.{Word}
 use Rattle.request.specs.declared.Request.{Request}
 use Rattle.request.specs.declared.Request.the-variants.{Nothing, Asks, NoCall, Unknown, NotANumber, WrongCount}
 use Rattle.request.proofs.Request.{the-type}

@@ -7,23 +7,24 @@ use lib.Dec.{ltb}
 use lib.ListN.{length, getD, drop}
 use Rattle.calendar.specs.declared.Period.{Period}
 use Rattle.book.specs.declared.Book.{Book}
-use Rattle.book.specs.Calls.{Sheet, sheetAt, Act, SET, PUT, OPEN, CLOSE, DROP, UNDO, ASK, CONFIRM, Call, by}
+use Rattle.book.specs.Calls.{Sheet, sheetAt, Act, SET, PUT, OPEN, CLOSE, DROP, UNDO, ASK, CONFIRM, DIRECT, Call, by}
 use Rattle.book.specs.Book.{step}
 use Rattle.queries.specs.Queries.{Telling, benchmarkOf, maximumOf}
 use Rattle.quoting.specs.Quote.{quoteOf}
 use Rattle.trial.specs.Trial.{trialOf}
 use Rattle.lines.specs.Words.{longestLine, withoutReturn}
-use Rattle.request.specs.declared.CodeStep.{CodeStep}
-use Rattle.request.specs.declared.CodeStep.the-variants.{Put, Open, Close, Drop, Ask, Confirm}
-use Rattle.request.specs.declared.Query.{Query}
-use Rattle.request.specs.declared.Query.the-variants.{Benchmark, Maximum, Quote, Trial}
-use Rattle.request.specs.declared.Word.{Word}
-use Rattle.request.specs.declared.Word.the-variants.{Set, Undo, On, Tells}
+use Rattle.naming.specs.declared.CodeStep.{CodeStep}
+use Rattle.naming.specs.declared.CodeStep.the-variants.{Put, Open, Close, Drop, Ask, Confirm, Direct}
+use Rattle.naming.specs.declared.Query.{Query}
+use Rattle.naming.specs.declared.Query.the-variants.{Benchmark, Maximum, Quote, Trial}
+use Rattle.naming.specs.declared.Word.{Word}
+use Rattle.naming.specs.declared.Word.the-variants.{Set, Undo, On, Tells, Rebate}
 use Rattle.request.specs.declared.Request.{Request}
 use Rattle.request.specs.declared.Request.the-variants.{Nothing, Asks, NoCall, Unknown, NotANumber, WrongCount}
 use Rattle.request.specs.Requests.{requestOf, numbersOf}
 use Rattle.errors.specs.Errors.{tooLong, problemText}
 use Rattle.answers.specs.Answers.{answerText, toldText}
+use Rattle.rebating.specs.Rebating.{rebateText}
 
 -- set and trial YEAR MONTH T F0 F1 ..
 abbrev pub periodOf : List ℕ → Period
@@ -40,6 +41,7 @@ onOf Close ns = CLOSE (getD ns 0 0)
 onOf Drop ns = DROP (getD ns 0 0)
 onOf Ask ns = ASK (getD ns 0 0)
 onOf Confirm ns = CONFIRM (getD ns 0 0)
+onOf Direct ns = DIRECT (getD ns 0 0)
 
 -- what the book tells a desk to these numbers
 abbrev pub toldOf : Book → (desk : ℕ) → Query → List ℕ → Telling
@@ -64,6 +66,7 @@ callLine b desk Set ns = stepLine b (by desk (SET (givenSheet ns)))
 callLine b desk Undo ns = stepLine b (by desk UNDO)
 callLine b desk (On s) ns = stepLine b (by desk (onOf s ns))
 callLine b desk (Tells q) ns = toldLine b (toldOf b desk q ns)
+callLine b desk Rebate ns = record { book = b; text = rebateText b desk ns }
 
 -- a line that is no call: "the book is untouched"
 abbrev pub problemLine : Book → ℕ → Request → Response

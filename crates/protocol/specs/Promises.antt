@@ -8,9 +8,11 @@ use Rattle.book.specs.declared.Book.{Book}
 use Rattle.book.specs.Calls.{UNDO, by}
 use Rattle.book.specs.Book.{Reachable}
 use Rattle.texts.specs.Writing.{Puts}
-use Rattle.request.specs.declared.Word.{Word}
-use Rattle.request.specs.declared.Word.the-variants as word
-use Rattle.request.specs.Requests.{arity, RightCount}
+use Rattle.naming.specs.declared.Word.{Word}
+use Rattle.naming.specs.declared.Word.the-variants as word
+use Rattle.naming.specs.Naming.{arity, RightCount}
+use Rattle.protocol.specs.declared.Question.{Question}
+use Rattle.protocol.specs.declared.Question.the-variants.{Of, Rebate}
 use Rattle.protocol.specs.declared.Said.{Said}
 use Rattle.protocol.specs.declared.Said.the-variants.{Answer, Set, Undo, On, Tells}
 use Rattle.protocol.specs.Lines.{Response, stepLine, callLine}
@@ -20,6 +22,11 @@ pub record Answered (line : Response) (b : Book) (before : List ℕ) (at next : 
   pub book : b ≡ line .book
   pub reachable : Reachable b
   pub text : Puts before at (line .text) next after
+
+-- the word of a call that leaves the book as it is
+abbrev pub asking : Question → Word
+asking (Of q) = word.Tells q
+asking Rebate = word.Rebate
 
 -- a line is a desk's call that is still to be done, with the first n numbers; nothing is written yet
 abbrev pub ToDo : Word → (n desk : ℕ) (b : Book) (line : Response) (before after numbers : List ℕ) → Type 0
@@ -31,4 +38,4 @@ Says (Answer next) b line at before after numbers = Answered line b before at ne
 Says (Set n desk) b line at before after numbers = ToDo word.Set n desk b line before after numbers
 Says (Undo desk) b line at before after numbers = (line ≡ stepLine b (by desk UNDO)) × (after ≡ before)
 Says (On s n desk) b line at before after numbers = ToDo (word.On s) n desk b line before after numbers
-Says (Tells q n desk) b line at before after numbers = ToDo (word.Tells q) n desk b line before after numbers
+Says (Tells q n desk) b line at before after numbers = ToDo (asking q) n desk b line before after numbers

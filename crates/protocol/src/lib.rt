@@ -5,25 +5,31 @@ ghost use Prim.Native.Nat.{_+_, _≤_};
 ghost use lib.ListN.{length};
 ghost use Rattle.book.specs.declared.Book.{Book};
 ghost use Rattle.book.specs.Book.{Reachable};
+ghost use Rattle.naming.specs.declared.Word.the-variants.{Tells};
 ghost use Rattle.request.specs.Requests.{requestOf, numbersOf};
-ghost use Rattle.request.specs.declared.Word.the-variants.{Tells};
 ghost use Rattle.answers.specs.Answers.{answerRoom};
 ghost use Rattle.lines.specs.Words.{longestLine, between};
 ghost use Rattle.protocol.specs.Lines.{requestLine, lineAt};
 ghost use Rattle.protocol.specs.Promises.{Says};
-use request::CodeStep;
-use request::Query;
+use naming::CodeStep;
+use naming::Query;
+use naming::Word;
 use request::Request;
-use request::Word;
+
+// The calls that leave the book as it is: one that tells of it, or REBATE.
+pub enum Question {
+    Of(Query),
+    Rebate,
+}
 
 // A line was answered, up to this place of the output; or it is a call with so many numbers, of a desk, and is still to be done: SET, UNDO, a
-// call on a code, or one that tells.
+// call on a code, or one that leaves the book as it is.
 pub enum Said {
     Answer(usize),
     Set(usize, u32),
     Undo(u32),
     On(CodeStep, usize, u32),
-    Tells(Query, usize, u32),
+    Tells(Question, usize, u32),
 }
 
 // Answers a line, without its line feed and the carriage return before it, unless it is a call. l is its number.
@@ -39,7 +45,8 @@ fn say(line: &[u8], l: u64, numbers: &mut [u32], out: &mut [u8], at: usize) -> S
         Word::Set => Said::Set(n, desk),
         Word::Undo => Said::Undo(desk),
         Word::On(step) => Said::On(step, n, desk),
-        Word::Tells(query) => Said::Tells(query, n, desk),
+        Word::Tells(query) => Said::Tells(Question::Of(query), n, desk),
+        Word::Rebate => Said::Tells(Question::Rebate, n, desk),
     }
 }
 

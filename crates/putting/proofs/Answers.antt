@@ -49,26 +49,26 @@ record-table : (c : Check) (m : Bool) → checked refused c (need refused m 17 a
 record-table (Refuse n) m = refl
 record-table Pass m = need-checked refused m 17 accepted
 
-put-table : (t : Bool) (s : State) (x : Tariff) (c : Check) (m : Bool)
-    → need refused t 6 (need refused (not (isOpen (heldIn s x))) 7 (checked refused c (need refused m 17 accepted)))
+put-table : (t : Bool) (s : State) (directed : Bool) (x : Tariff) (c : Check) (m : Bool)
+    → need refused t 6 (need refused (not (isOpen (heldIn s directed x))) 7 (checked refused c (need refused m 17 accepted)))
     ≡ checked refused (first (unless t 6 Pass) (first (openCheck s) (first c (unless m 17 Pass)))) accepted
-put-table false s x c m = refl
-put-table true Open x c m = refl
-put-table true Empty x c m = record-table c m
-put-table true Draft x c m = record-table c m
-put-table true Marked x c m = record-table c m
+put-table false s directed x c m = refl
+put-table true Open directed x c m = refl
+put-table true Empty directed x c m = record-table c m
+put-table true Draft directed x c m = record-table c m
+put-table true Marked directed x c m = record-table c m
 
 -- the place at the index of the code
 pub put-does : (desk : ℕ) (b : Book) (k at : ℕ) (p : Place) → (inside k ≡ true → suc at ≡ k) → getD (b .places) at beyond ≡ p
-    → (x : Record) (r : Settled) → Settles (putChecks desk k p x) accepted p (placeWith Draft (tariffOf x)) r → Does b (by desk (PUT k x)) (settledIn b at r)
+    → (x : Record) (r : Settled) → Settles (putChecks desk k p x) accepted p (placeWith Draft false (tariffOf x)) r → Does b (by desk (PUT k x)) (settledIn b at r)
 put-does desk b k at p index there x r h =
-    settles-does b k at p index there (by desk (PUT k x)) (first (openCheck (p .state)) (first (recordCheck x) (unless (mayPut desk (held p) x) 17 Pass))) accepted
-    (λ q. placeWith Draft (tariffOf x)) r
+    settles-does b k at p index there (by desk (PUT k x)) Pass (first (openCheck (p .state)) (first (recordCheck x) (unless (mayPut desk (held p) x) 17 Pass))) accepted
+    (λ q. placeWith Draft false (tariffOf x)) r
     (read-there b k at p index there refused (λ o. need refused (not (isOpen o)) 7 (checked refused (recordCheck x) (need refused (mayPut desk o x) 17 accepted)))
-    ∙ put-table (inside k) (p .state) (tariffIn p) (recordCheck x) (mayPut desk (held p) x))
+    ∙ put-table (inside k) (p .state) (p .directed) (tariffIn p) (recordCheck x) (mayPut desk (held p) x))
     refl h
 
 pub puts-there : {b : Book} {k i : ℕ} {p : Place} {loaded : Bool} {figures : Benchmarks} → HasPlace b k i p loaded figures
-    → (desk : ℕ) (x : Record) (r : Settled) → Settles (putChecks desk k p x) accepted p (placeWith Draft (tariffOf x)) r
+    → (desk : ℕ) (x : Record) (r : Settled) → Settles (putChecks desk k p x) accepted p (placeWith Draft false (tariffOf x)) r
     → Does b (by desk (PUT k x)) (settledIn b i r)
 puts-there {b} {k} {i} {p} h desk x r s = put-does desk b k i p (h .index) (h .place) x r s

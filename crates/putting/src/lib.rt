@@ -3,7 +3,7 @@
 // holds a book in a local of their own may settle a place (`put_at`) and store it, which copies no book and is the same call: its contract says
 // so of every book that has the place (`HasPlace` of the book's definitions).
 ghost use mathlib.Core.Path.{_≡_};
-ghost use mathlib.Core.Bool.{Bool};
+ghost use mathlib.Core.Bool.{Bool, false};
 ghost use Prim.Native.Nat.{ℕ};
 ghost use Rattle.refusal.specs.declared.Check.the-variants.{Pass};
 ghost use Rattle.refusal.specs.Checks.{unless};
@@ -33,9 +33,10 @@ fn draft_check(desk: u32, p: Place) -> Check
     desks::use_check(desk, p.regions)
 }
 
-// PUT (code, tariff) of one place. 6, 7, 8, 17. Else the place holds it as a draft, over any draft.
+// PUT (code, tariff) of one place. 6, 7, 8, 17. Else the place holds it as a draft, over any draft, and without a
+// direction.
 pub fn put_at(desk: u32, code: u32, p: Place, x: &[u32]) -> Settled
-    ensures { λ r. ⌜ Settles (putChecks desk code p (now (x .entry))) accepted p (placeWith State.Draft (tariffOf (now (x .entry)))) r × ((b : Book) (i : ℕ) (loaded : Bool) (figures : Benchmarks) → HasPlace b code i p loaded figures → Does b (by desk (PUT code (now (x .entry)))) (settledIn b i r)) ⌝ }
+    ensures { λ r. ⌜ Settles (putChecks desk code p (now (x .entry))) accepted p (placeWith State.Draft false (tariffOf (now (x .entry)))) r × ((b : Book) (i : ℕ) (loaded : Bool) (figures : Benchmarks) → HasPlace b code i p loaded figures → Does b (by desk (PUT code (now (x .entry)))) (settledIn b i r)) ⌝ }
 {
     let inside = checks::code_check(code);
     let shut = checks::open_check(p);
@@ -48,7 +49,7 @@ pub fn put_at(desk: u32, code: u32, p: Place, x: &[u32]) -> Settled
     };
     let x = tariff::tariff_of(x);
     let new = desks::use_check(desk, x.regions);
-    book::settled_by(new, p, book::place_with(State::Draft, x))
+    book::settled_by(new, p, book::place_with(State::Draft, false, x))
 }
 
 // PUT (code, tariff), of a book.

@@ -40,7 +40,7 @@ module _ (t : ℕ) (months : List ℕ) where
   all-pass h i l k e = rw (eq-eqb (length months) t h) (ends (small months) (length months) i l k e)
 
 -- a list that 13 allows is one of t months
-months-within : (t : ℕ) (months : List ℕ) → monthsAllowed t months ≡ true → Months t months
+pub months-within : (t : ℕ) (months : List ℕ) → monthsAllowed t months ≡ true → Months t months
 unfolding monthsAllowed
 months-within t months e = (eqb-true (length months) t (and-left _ _ e), λ i. go i (decLt i (length months)))
   where

@@ -1,1 +1,2 @@
 pub mod Quote
+pub mod Reading

@@ -8,7 +8,7 @@ use lib.ListN.{length, getD, drop, length-append, length-drop}
 use lib.Seq.{drop-drop, take-at, drop-at}
 use Rattle.book.specs.declared.Book.{Book}
 use Rattle.book.specs.declared.Done.{Done}
-use Rattle.book.specs.Calls.{sheetAt, Act, SET, PUT, OPEN, CLOSE, DROP, UNDO, ASK, CONFIRM, Call, by}
+use Rattle.book.specs.Calls.{sheetAt, Act, SET, PUT, OPEN, CLOSE, DROP, UNDO, ASK, CONFIRM, DIRECT, Call, by}
 use Rattle.book.specs.Book.{step, Reachable}
 use Rattle.book.specs.Promises.{answerOf, Does}
 use Rattle.book.proofs.Reached.{does-reachable}
@@ -50,6 +50,7 @@ decoded (DROP k) rest = record { fits = omega arith; asks = refl; left = refl }
 decoded UNDO rest = record { fits = omega arith; asks = refl; left = refl }
 decoded (ASK k) rest = record { fits = omega arith; asks = refl; left = refl }
 decoded (CONFIRM k) rest = record { fits = omega arith; asks = refl; left = refl }
+decoded (DIRECT k) rest = record { fits = omega arith; asks = refl; left = refl }
 
 -- a list, and what is behind its first number, the desk
 module _ (b : Book) (s t : List ℕ) (behind : t ≡ drop 1 s) (start : Reachable b) (r : Ran) where

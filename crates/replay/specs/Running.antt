@@ -7,7 +7,7 @@ use Prim.Native.Nat.{ℕ, _+_, _-_, _≤_}
 use lib.Dec.{eqb, leb}
 use lib.ListN.{length, getD, take, drop}
 use Rattle.book.specs.declared.Book.{Book}
-use Rattle.book.specs.Calls.{sheetAt, Act, SET, PUT, UNDO, Call}
+use Rattle.book.specs.Calls.{sheetAt, Act, SET, PUT, UNDO, DIRECT, Call}
 use Rattle.book.specs.Book.{step, Reachable}
 use Rattle.codes.specs.declared.CodeAct.{CodeAct}
 use Rattle.codes.specs.declared.CodeAct.the-variants.{Open, Close, Drop, Ask, Confirm}
@@ -20,7 +20,7 @@ use Rattle.replay.specs.Encoded.{encodeCall, numberOf}
 abbrev pub endOf : List ℕ → ℕ
 endOf s =
     cond (eqb (getD s 0 0) 0) (5 + getD s 4 0)
-    (cond (eqb (getD s 0 0) 1) (3 + getD s 2 0) (cond (eqb (getD s 0 0) 5) 1 (cond (leb (getD s 0 0) 7) 2 (length s + 1))))
+    (cond (eqb (getD s 0 0) 1) (3 + getD s 2 0) (cond (eqb (getD s 0 0) 5) 1 (cond (leb (getD s 0 0) 8) 2 (length s + 1))))
 
 abbrev pub setTo : List ℕ → ℕ → Act
 setTo s end = SET (sheetAt (take (end - 5) (drop 5 s)) (record { year = getD s 1 0; month = getD s 2 0; months = getD s 3 0 }))
@@ -34,7 +34,8 @@ codeActOf op = cond (eqb op 2) Open (cond (eqb op 3) Close (cond (eqb op 4) Drop
 abbrev pub actTo : List ℕ → ℕ → Act
 actTo s end =
     cond (eqb (getD s 0 0) 0) (setTo s end)
-    (cond (eqb (getD s 0 0) 1) (putTo s end) (cond (eqb (getD s 0 0) 5) UNDO (actOn (codeActOf (getD s 0 0)) (getD s 1 0))))
+    (cond (eqb (getD s 0 0) 1) (putTo s end)
+    (cond (eqb (getD s 0 0) 5) UNDO (cond (eqb (getD s 0 0) 8) (DIRECT (getD s 1 0)) (actOn (codeActOf (getD s 0 0)) (getD s 1 0)))))
 
 -- what ran at the start of a list, on a book: the book after it is reachable, and where a call stands there, it was that call, done as
 -- `step` says, and what follows it is left

@@ -1,6 +1,6 @@
 // A lent list of encoded calls, each with its desk, run from a fresh book.
 // Promise: `run`'s own contract is demand 3, of the answers that it wrote and the book that it returns. It is the witness that the
-// contracts of SET, PUT, OPEN, CLOSE, DROP, UNDO, ASK and CONFIRM compose. A list that encodes no calls ends the run where it stops making sense.
+// contracts of SET, PUT, OPEN, CLOSE, DROP, UNDO, ASK, CONFIRM and DIRECT compose. A list that encodes no calls ends the run where it stops making sense.
 ghost use mathlib.Core.Path.{_≡_};
 ghost use mathlib.Core.List.{List, map};
 ghost use Prim.Native.Nat.{ℕ, _≤_, _<_};
@@ -61,7 +61,7 @@ fn end_of(calls: &[u32]) -> usize
     if op == 5 {
         return 1;
     }
-    if op <= 7 {
+    if op <= 8 {
         return 2;
     }
     calls.len() + 1
@@ -121,6 +121,9 @@ fn made(b: Book, desk: u32, calls: &[u32], end: usize) -> Done
     }
     if op == 5 {
         return undo::undo(b, desk);
+    }
+    if op == 8 {
+        return directing::direct(b, desk, number_at(calls, 1));
     }
     codes::act_on(b, desk, number_at(calls, 1), code_act(op))
 }

@@ -6,11 +6,12 @@ use Rattle.tariff.specs.Tariff.{allFourteen}
 use Rattle.texts.specs.Texts.{bytesOf}
 use Rattle.lines.specs.Words.{parts, notEmpty, words}
 use Rattle.lines.specs.Numerals.{digits, valueAfter, value, numbersIn}
-use Rattle.request.specs.declared.CodeStep.the-variants.{Put, Open, Close, Drop, Ask, Confirm}
-use Rattle.request.specs.declared.Query.the-variants.{Benchmark, Maximum, Quote, Trial}
-use Rattle.request.specs.declared.Word.the-variants.{Set, Undo, On, Tells}
+use Rattle.naming.specs.declared.CodeStep.the-variants.{Put, Open, Close, Drop, Ask, Confirm, Direct}
+use Rattle.naming.specs.declared.Query.the-variants.{Benchmark, Maximum, Quote, Trial}
+use Rattle.naming.specs.declared.Word.the-variants.{Set, Undo, On, Tells, Rebate}
+use Rattle.naming.specs.Naming.{same, named}
 use Rattle.request.specs.declared.Request.the-variants.{Nothing, Asks, NoCall, Unknown, NotANumber, WrongCount}
-use Rattle.request.specs.Requests.{same, named, requestOf, numbersOf}
+use Rattle.request.specs.Requests.{requestOf, numbersOf}
 
 blank : requestOf (bytesOf "   ") ≡ Nothing
 unfolding requestOf words parts notEmpty
@@ -70,6 +71,14 @@ confirmed-bare : requestOf (bytesOf "confirm") ≡ WrongCount (On Confirm)
 unfolding requestOf words parts notEmpty same named numbersIn digits valueAfter value
 confirmed-bare = refl
 
+directed : requestOf (bytesOf "direct 5") ≡ Asks allFourteen (On Direct) 1
+unfolding requestOf words parts notEmpty same named numbersIn digits valueAfter value
+directed = refl
+
+directed-bare : requestOf (bytesOf "direct") ≡ WrongCount (On Direct)
+unfolding requestOf words parts notEmpty same named numbersIn digits valueAfter value
+directed-bare = refl
+
 cut-short : requestOf (bytesOf "confi 1") ≡ Unknown
 unfolding requestOf words parts notEmpty same named numbersIn digits valueAfter value
 cut-short = refl
@@ -106,10 +115,32 @@ taken-back-word : requestOf (bytesOf "undo it") ≡ NotANumber 2
 unfolding requestOf words parts notEmpty same named numbersIn digits valueAfter value
 taken-back-word = refl
 
+-- a run over no account, and over one
+rebated-none : requestOf (bytesOf "rebate") ≡ Asks allFourteen Rebate 0
+unfolding requestOf words parts notEmpty same named numbersIn digits valueAfter value
+rebated-none = refl
+
+rebated : requestOf (bytesOf "rebate 5 0 1 2 100 200 0 0 0 0 0 0 0 0 0 0") ≡ Asks allFourteen Rebate 16
+unfolding requestOf words parts notEmpty same named numbersIn digits valueAfter value
+rebated = refl
+
+-- a number too few, and one too many
+rebated-short : requestOf (bytesOf "rebate 5 0 1 2 100 200 0 0 0 0 0 0 0 0 0") ≡ WrongCount Rebate
+unfolding requestOf words parts notEmpty same named numbersIn digits valueAfter value
+rebated-short = refl
+
+rebated-long : requestOf (bytesOf "rebate 5 0 1 2 100 200 0 0 0 0 0 0 0 0 0 0 7") ≡ WrongCount Rebate
+unfolding requestOf words parts notEmpty same named numbersIn digits valueAfter value
+rebated-long = refl
+
 -- a desk's number before the call
 of-desk : requestOf (bytesOf "desk 3 open 4") ≡ Asks 3 (On Open) 1
 unfolding requestOf words parts notEmpty same named numbersIn digits valueAfter value
 of-desk = refl
+
+of-desk-none : requestOf (bytesOf "desk 3 rebate") ≡ Asks 3 Rebate 0
+unfolding requestOf words parts notEmpty same named numbersIn digits valueAfter value
+of-desk-none = refl
 
 of-desk-numbers : numbersOf (bytesOf "desk 3 open 4") ≡ 4 ∷ []
 unfolding numbersOf words parts notEmpty same valueAfter value

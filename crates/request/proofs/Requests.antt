@@ -8,7 +8,7 @@ use native.Mathlib.Decide.{decLe}
 use native.Mathlib.Omega.{arith}
 use lib.ListN.{length, getD, take, drop, drop-of-length-le, length-drop}
 use lib.Seq.{drop-drop, getD-drop}
-use borrow.Author.Tests.{eq-eqb, ne-eqb, leb-true, eqb-true}
+use borrow.Author.Tests.{eq-eqb, ne-eqb}
 use Rattle.bytes.specs.Bytes.{indexOf}
 use Rattle.tariff.specs.Tariff.{allFourteen}
 use Rattle.lines.specs.declared.Number.the-variants.{Value, Not}
@@ -17,18 +17,13 @@ use Rattle.lines.specs.Words.{parts, notEmpty, words, wordIn, spaces}
 use Rattle.lines.specs.Numerals.{value, numeral, numberAt, numbersIn}
 use Rattle.lines.proofs.Splitting.{index-within, word-length, first-word, first-byte}
 use Rattle.lines.proofs.Reading.{some-numeral, told, number-told, value-told, words-passed, none-left}
-use Rattle.request.specs.declared.Word.{Word}
-use Rattle.request.specs.declared.Arity.{Arity}
-use Rattle.request.specs.declared.Arity.the-variants.{Exactly, AtLeast}
-use Rattle.request.specs.declared.Named.the-variants.{By, None}
+use Rattle.naming.specs.declared.Word.{Word}
+use Rattle.naming.specs.declared.Named.the-variants.{By, None}
+use Rattle.naming.specs.Naming.{calls, arity, rightCount, named}
+use Rattle.naming.proofs.Counts.{counted}
 use Rattle.request.specs.declared.Request.{Request}
 use Rattle.request.specs.declared.Request.the-variants.{Nothing, Asks, NoCall, Unknown, NotANumber, WrongCount}
-use Rattle.request.specs.Requests.{calls, arity, rightCount, RightCount, named, askedBy, callIn, deskLine, namesDesk, askedIn, requestOf, numbersOf, Ready}
-
--- the count is right
-counted : (a : Arity) (n : ℕ) → rightCount a n ≡ true → RightCount a n
-counted (Exactly k) n e = eqb-true n k e
-counted (AtLeast k) n e = leb-true k n e
+use Rattle.request.specs.Requests.{askedBy, callIn, deskLine, namesDesk, askedIn, requestOf, numbersOf, Ready}
 
 -- no word stands from `from` on
 pub no-words : (line : List ℕ) (from start : ℕ) → start ≡ from + spaces (drop from line) → start ≡ length line → words (drop from line) ≡ []

@@ -1,10 +1,10 @@
 -- Which call a line asks for, and of which desk, in the words and the order of the desk's protocol.
 -- Assumes nothing.
 use mathlib.Core.Path.{_≡_}
-use mathlib.Core.Bool.{Bool, true, false, cond, _&&_}
+use mathlib.Core.Bool.{Bool, cond}
 use mathlib.Core.List.{List, [], _∷_, map}
 use Prim.Native.Nat.{ℕ, _+_, _≤_}
-use lib.Dec.{leb, eqb}
+use lib.Dec.{eqb}
 use lib.ListN.{length, getD, take, drop}
 use Rattle.tariff.specs.Tariff.{allFourteen}
 use Rattle.texts.specs.Texts.{bytesOf}
@@ -12,80 +12,12 @@ use Rattle.lines.specs.declared.Numbers.{Numbers}
 use Rattle.lines.specs.declared.Numbers.the-variants.{All, Bad}
 use Rattle.lines.specs.Words.{words}
 use Rattle.lines.specs.Numerals.{value, numeral, numbersIn}
-use Rattle.request.specs.declared.CodeStep.the-variants.{Put, Open, Close, Drop, Ask, Confirm}
-use Rattle.request.specs.declared.Query.the-variants.{Benchmark, Maximum, Quote, Trial}
-use Rattle.request.specs.declared.Word.{Word}
-use Rattle.request.specs.declared.Word.the-variants.{Set, Undo, On, Tells}
-use Rattle.request.specs.declared.Arity.{Arity}
-use Rattle.request.specs.declared.Arity.the-variants.{Exactly, AtLeast}
-use Rattle.request.specs.declared.Form.{Form}
-use Rattle.request.specs.declared.Named.{Named}
-use Rattle.request.specs.declared.Named.the-variants.{By, None}
+use Rattle.naming.specs.declared.Word.{Word}
+use Rattle.naming.specs.declared.Named.{Named}
+use Rattle.naming.specs.declared.Named.the-variants.{By, None}
+use Rattle.naming.specs.Naming.{calls, arity, rightCount, RightCount, same, named}
 use Rattle.request.specs.declared.Request.{Request}
 use Rattle.request.specs.declared.Request.the-variants.{Nothing, Asks, NoCall, Unknown, NotANumber, WrongCount}
-
--- the twelve calls: SET, UNDO, six on a code, and four that tell of the book
-abbrev pub calls : List Word
-calls =
-    Set ∷ Undo ∷ On Put ∷ On Open ∷ On Close ∷ On Drop ∷ On Ask ∷ On Confirm ∷ Tells Benchmark ∷ Tells Maximum ∷ Tells Quote ∷ Tells Trial ∷ []
-
-abbrev pub nameOf : Word → List ℕ
-nameOf Set = bytesOf "set"
-nameOf Undo = bytesOf "undo"
-nameOf (On Put) = bytesOf "put"
-nameOf (On Open) = bytesOf "open"
-nameOf (On Close) = bytesOf "close"
-nameOf (On Drop) = bytesOf "drop"
-nameOf (On Ask) = bytesOf "ask"
-nameOf (On Confirm) = bytesOf "confirm"
-nameOf (Tells Benchmark) = bytesOf "benchmark"
-nameOf (Tells Maximum) = bytesOf "maximum"
-nameOf (Tells Quote) = bytesOf "quote"
-nameOf (Tells Trial) = bytesOf "trial"
-
--- how many numbers a call takes
-abbrev pub arity : Word → Arity
-arity Set = AtLeast 3
-arity Undo = Exactly 0
-arity (On Put) = AtLeast 1
-arity (On Open) = Exactly 1
-arity (On Close) = Exactly 1
-arity (On Drop) = Exactly 1
-arity (On Ask) = Exactly 1
-arity (On Confirm) = Exactly 1
-arity (Tells Benchmark) = Exactly 4
-arity (Tells Maximum) = Exactly 4
-arity (Tells Quote) = AtLeast 3
-arity (Tells Trial) = AtLeast 3
-
--- whether n numbers are as many
-abbrev pub rightCount : Arity → ℕ → Bool
-rightCount (Exactly k) n = eqb n k
-rightCount (AtLeast k) n = leb k n
-
--- the same as a fact (proofs/Requests.antt, `counted`)
-abbrev pub RightCount : Arity → ℕ → Type 0
-RightCount (Exactly k) n = n ≡ k
-RightCount (AtLeast k) n = k ≤ n
-
--- a form with this name and this arity
-pub record FormOf (name : List ℕ) (a : Arity) (f : Form) : Type 0 where
-  pub text : take (f .size) (f .name) ≡ name
-  pub within : f .size ≤ length (f .name)
-  pub most : length (f .name) ≡ 9
-  pub count : f .arity ≡ a
-
--- whether two lists of bytes are the same
-unfoldable pub same : List ℕ → List ℕ → Bool
-same [] [] = true
-same [] (y ∷ ys) = false
-same (x ∷ xs) [] = false
-same (x ∷ xs) (y ∷ ys) = eqb x y && same xs ys
-
--- the first of some calls whose name a word is
-unfoldable pub named : List Word → List ℕ → Named
-named [] w = None
-named (c ∷ cs) w = cond (same w (nameOf c)) (By c) (named cs w)
 
 -- what a desk asks for, once its call's own word is known: "unknown call"; "word K is not a number", K counted over the words of the whole line,
 -- of which `skipped` stand before the call; and the count

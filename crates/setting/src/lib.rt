@@ -1,6 +1,6 @@
 // SET: the checks of a sheet and its period, and every open tariff judged by it.
-// Promise: `set` answers and leaves what `step` says of SET, on refused input too: the sheet is replaced, and each open tariff that
-// exceeds somewhere becomes a draft, and no draft is marked. Only a desk with all fourteen regions may: 17 to any other. `judge` does all of that but storing it, for TRIAL too, and asks only
+// Promise: `set` answers and leaves what `step` says of SET, on refused input too: the sheet is replaced, each open tariff that
+// exceeds somewhere becomes a draft, unless it is under a direction, and no draft is marked. Only a desk with all fourteen regions may: 17 to any other. `judge` does all of that but storing it, for TRIAL too, and asks only
 // that the places hold nothing or valid tariffs. `set` requires document 01's own sentence on the book, `Reachable`.
 ghost use mathlib.Core.Path.{_≡_};
 ghost use mathlib.Core.Bool.{true};
@@ -26,7 +26,8 @@ use refusal::Check;
 use sheet::FIELD_COUNT;
 use verdict::Found;
 
-// A place under the figures of a new sheet: a mark is cleared, and an open tariff that exceeds somewhere becomes a draft.
+// A place under the figures of a new sheet: a mark is cleared, and an open tariff that exceeds somewhere becomes a draft, unless it is
+// under a direction.
 fn judged(p: Place, figures: Benchmarks) -> Place
     requires { ⌜ Lawful figures × HoldsValid p ⌝ }
     ensures { λ r. ⌜ r ≡ under figures p ⌝ }
@@ -37,6 +38,9 @@ fn judged(p: Place, figures: Benchmarks) -> Place
         State::Draft => p,
         State::Marked => book::in_state(p, State::Draft),
         State::Open => {
+            if p.directed {
+                return p;
+            }
             let found = verdict::first_over(figures, book::tariff_in(p));
             match found {
                 Found::Nowhere => p,
@@ -135,7 +139,7 @@ fn kept_of(loaded: bool, fields: [u32; FIELD_COUNT], period: Period, places: [Pl
 }
 
 // SET of a desk with all fourteen regions: 1 to 4, 14, 5. Else the sheet is replaced, each open tariff that exceeds somewhere becomes a
-// draft, and UNDO may take it back.
+// draft, unless it is under a direction, and UNDO may take it back.
 fn put_in_force(b: Book, fields: &[u32], period: Period) -> Done
     requires { ⌜ Reachable b ⌝ }
     ensures { λ r. ⌜ Does b (call (SET (sheetAt (now (fields .entry)) period))) r ⌝ }

@@ -1,7 +1,7 @@
 // The calls of the book, timed: `speed MEASUREMENT CALLS` makes that many calls from a fixed generator and prints the checksum of
 // their answers, all of a desk with all fourteen regions. 0: SET with 32 open tariffs. 1: OPEN of 28 cells and 4 tiers, with the CLOSE that frees it. 2: OPEN that is over
 // the cap in the last cell. 3: QUOTE of 12 months. 4: BENCHMARK. 5: TRIAL with 32 open tariffs. 6: as 1, the book handed to each call
-// and back. 7: as 0, each SET taken back by UNDO. Any other number: each of the eight in turn.
+// and back. 7: as 0, each SET taken back by UNDO. 8: accounts of 12 months, in rebate runs over 10,000. Any other number: each of the nine in turn.
 // Promise: each run is safe and ends, and every book that is handed to a call is one that some list of calls leaves.
 // tests/speed has the twin of this program on another implementation, and the runner that times both.
 ghost use mathlib.Core.Path.{_≡_};
@@ -15,6 +15,8 @@ use calendar::Period;
 use codes::CodeAct;
 use libc::STDOUT_FILENO;
 use queries::Told;
+use rebates::Account;
+use rebates::Run;
 use sheet::FIELD_COUNT;
 use tariff::ALL_FOURTEEN;
 use tariff::RECORD_LENGTH;
@@ -178,10 +180,10 @@ fn record_of(numbers: [u32; 13]) -> [u32; RECORD_LENGTH] {
     whole
 }
 
-// A tariff with four tiers, offered everywhere. With a standing charge of 10,000 it is within the cap in all 28 cells, and with
-// 22,000 in all but the last.
-fn tiered(k: u32, standing: u32) -> [u32; RECORD_LENGTH]
-    requires { ⌜ (k < 32) × (standing ≤ 22000) ⌝ }
+// A tariff with four tiers, offered everywhere, its rates more by some. With no more and a standing charge of 10,000 it is within the cap in all
+// 28 cells, and with 22,000 in all but the last.
+fn tiered(k: u32, standing: u32, more: u32) -> [u32; RECORD_LENGTH]
+    requires { ⌜ (k < 32) × (standing ≤ 22000) × (more ≤ 2000) ⌝ }
 {
     record_of([
         1,
@@ -189,10 +191,10 @@ fn tiered(k: u32, standing: u32) -> [u32; RECORD_LENGTH]
         standing + k,
         ALL_FOURTEEN,
         3,
-        18_600 + k,
-        18_000 + k,
-        18_500 + k,
-        17_000 + k,
+        18_600 + k + more,
+        18_000 + k + more,
+        18_500 + k + more,
+        17_000 + k + more,
         100 + k,
         500 + k,
         2_000 + k,
@@ -200,21 +202,21 @@ fn tiered(k: u32, standing: u32) -> [u32; RECORD_LENGTH]
     ])
 }
 
-// Tariffs of all three kinds, within the cap everywhere.
-fn mixed(k: u32) -> [u32; RECORD_LENGTH]
-    requires { ⌜ k < 32 ⌝ }
+// Tariffs of all three kinds, their rates more by some. With no more they are within the cap everywhere.
+fn mixed(k: u32, more: u32) -> [u32; RECORD_LENGTH]
+    requires { ⌜ (k < 32) × (more ≤ 2000) ⌝ }
 {
     let kind = k % 4;
     match kind {
-        0 => tiered(k, 10_000),
+        0 => tiered(k, 10_000, more),
         1 => record_of([
             1,
             2,
             10_000 + k,
             ALL_FOURTEEN,
             3,
-            18_600 + k,
-            18_000 + k,
+            18_600 + k + more,
+            18_000 + k + more,
             0,
             0,
             100 + k,
@@ -228,8 +230,8 @@ fn mixed(k: u32) -> [u32; RECORD_LENGTH]
             10_000 + k,
             ALL_FOURTEEN,
             3,
-            17_000 + k,
-            12_000 + k,
+            17_000 + k + more,
+            12_000 + k + more,
             0,
             0,
             0,
@@ -243,9 +245,9 @@ fn mixed(k: u32) -> [u32; RECORD_LENGTH]
             10_000 + k,
             ALL_FOURTEEN,
             3,
-            17_000 + k,
-            11_000 + k,
-            14_000 + k,
+            17_000 + k + more,
+            11_000 + k + more,
+            14_000 + k + more,
             0,
             500,
             300,
@@ -277,7 +279,7 @@ fn with_drafts(standing: u32) -> Book
     let mut b = with_sheet();
     let mut k: u32 = 0;
     while k < 32 {
-        let record = tiered(k, standing);
+        let record = tiered(k, standing, 0);
         let did = putting::put(b, ALL_FOURTEEN, k + 1, &record);
         let after = did.book;
         b = after;
@@ -293,10 +295,30 @@ fn with_open() -> Book
     let mut b = with_sheet();
     let mut k: u32 = 0;
     while k < 32 {
-        let record = mixed(k);
+        let record = mixed(k, 0);
         let put = putting::put(b, ALL_FOURTEEN, k + 1, &record);
         let draft = put.book;
         let did = codes::act_on(draft, ALL_FOURTEEN, k + 1, CodeAct::Open);
+        let after = did.book;
+        b = after;
+        k += 1;
+    }
+    b
+}
+
+// A book with the sheet and 32 open tariffs of all kinds under directions, half of them above the cap.
+fn with_directed() -> Book
+    ensures { λ r. ⌜ Reachable r ⌝ }
+{
+    let mut b = with_sheet();
+    let mut k: u32 = 0;
+    while k < 32 {
+        let record = mixed(k, k / 4 % 2 * 2_000);
+        let put = putting::put(b, ALL_FOURTEEN, k + 1, &record);
+        let draft = put.book;
+        let given = directing::direct(draft, ALL_FOURTEEN, k + 1);
+        let directed = given.book;
+        let did = codes::act_on(directed, ALL_FOURTEEN, k + 1, CodeAct::Open);
         let after = did.book;
         b = after;
         k += 1;
@@ -538,6 +560,68 @@ fn trials(n: u64) -> u64 {
     sum
 }
 
+// Accounts of the 32 tariffs, in any cell, with twelve months.
+fn drawn_accounts() -> [Account; 10_000] {
+    let mut list = [Account {
+        code: 0,
+        region: 0,
+        method: 0,
+        count: 12,
+        months: [0; 12],
+        rebate: 0,
+    }; 10_000];
+    let mut months = [1_000u32; 12];
+    let mut x: u64 = 1;
+    let mut i: usize = 0;
+    while i < 10_000 {
+        x = next(x);
+        let month = drawn(x, 12) as usize;
+        let code = 1 + drawn(x, 32);
+        let region = drawn(x, 14);
+        x = next(x);
+        months[month] = drawn(x, 10_001);
+        list[i] = Account {
+            code,
+            region,
+            method: drawn(x, 2),
+            count: 12,
+            months,
+            rebate: 0,
+        };
+        i += 1;
+    }
+    list
+}
+
+fn fold_run(sum: u64, answer: Run) -> u64 {
+    match answer {
+        Run::Accepted(total) => fold(sum, total),
+        Run::Refused { number, place } => fold(fold(sum, number as u64), place as u64),
+    }
+}
+
+// Runs over 10,000 accounts; the last may be over more than is left.
+fn repays(n: u64) -> u64 {
+    let b = with_directed();
+    let mut list = drawn_accounts();
+    let mut sum: u64 = 0;
+    let mut left = n;
+    while left > 0 {
+        let ran = accounts::run_many(b, ALL_FOURTEEN, list, 10_000);
+        let answer = ran.answer;
+        let written = ran.accounts;
+        list = written;
+        sum = fold_run(sum, answer);
+        if left < 10_000 {
+            left = 0;
+        } else {
+            left -= 10_000;
+        }
+    }
+    let last = list[9_999];
+    fold(sum, last.rebate)
+}
+
 // The checksum of one measurement.
 fn measured(measurement: u64, calls: u64) -> u64 {
     match measurement {
@@ -548,7 +632,8 @@ fn measured(measurement: u64, calls: u64) -> u64 {
         4 => benchmarks(calls),
         5 => trials(calls),
         6 => handed(calls),
-        _ => undos(calls),
+        7 => undos(calls),
+        _ => repays(calls),
     }
 }
 
@@ -590,11 +675,11 @@ fn argument(i: usize) -> u64 {
 fn main() {
     let measurement = argument(1);
     let calls = argument(2);
-    if measurement < 8 {
+    if measurement < 9 {
         print(measured(measurement, calls));
         return;
     }
-    for each in 0..8 {
+    for each in 0..9 {
         print(measured(each, calls));
     }
 }

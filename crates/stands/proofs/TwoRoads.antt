@@ -8,12 +8,11 @@ use lib.Seq.{set-set}
 use borrow.Author.Tests.{eq-eqb}
 use Rattle.refusal.specs.Checks.{need}
 use Rattle.desks.specs.Desks.{mayUse}
-use Rattle.verdict.specs.Cells.{cellCount}
 use Rattle.book.specs.declared.State.the-variants.{Marked, Open}
 use Rattle.book.specs.declared.Place.{Place}
 use Rattle.book.specs.declared.Book.{Book}
-use Rattle.book.specs.Calls.{OPEN, ASK, CONFIRM, by, cells, refused, isAccepted}
-use Rattle.book.specs.Checks.{confirmAnswer, answer}
+use Rattle.book.specs.Calls.{OPEN, ASK, CONFIRM, by, refused, isAccepted}
+use Rattle.book.specs.Checks.{confirmedAs, confirmAnswer, answer}
 use Rattle.book.specs.Book.{nothingKept, tariffIn, withState, placeOf, setPlace, held, inForce, bookReadings, withPlaces, changed, step, Reachable}
 use Rattle.book.proofs.Places.{code-range, at-set}
 use Rattle.book.proofs.Accepted.{Opens, open-accepted}
@@ -47,10 +46,10 @@ module _ (desk : ℕ) (b : Book) (from : Reachable b) (k : ℕ) where
 
     confirmed : answer desk (bookReadings marked) (CONFIRM k) ≡ answer desk (bookReadings b) (OPEN k)
     confirmed =
-        let same = held-fits (inForce b) (p .state) p (fits .places k (known .code)) (known .h) (known .its) .1 in
+        let same = held-fits (inForce b) (p .state) p (fits .places k (known .code)) (known .h) (known .its) in
         ap (λ q. confirmAnswer desk k (held q)) there
-        ∙ ap₂ (λ t u. need refused t 6 (need refused u 17 (cells (cellCount (tariffIn p))))) (known .code) (ap (λ x. mayUse desk (x .regions)) same ∙ known .may)
-        ∙ ap (λ x. cells (cellCount x)) same
+        ∙ ap₂ (λ t u. need refused t 6 (need refused u 17 (confirmedAs (p .directed) (tariffIn p)))) (known .code) (ap (λ x. mayUse desk (x .regions)) (same .1) ∙ known .may)
+        ∙ ap₂ confirmedAs (same .3) (same .1)
         ∙ sym (known .answers)
 
     left : changed marked (CONFIRM k) ≡ changed b (OPEN k)

@@ -2,7 +2,7 @@
 -- (proofs/Exactly.antt, `reachable-exactly`).
 -- Assumes nothing.
 use mathlib.Core.Path.{_≡_}
-use mathlib.Core.Bool.{true, false}
+use mathlib.Core.Bool.{Bool, true, false}
 use mathlib.Core.Option.{Option, none, some}
 use Prim.Native.Nat.{ℕ}
 use lib.ListN.{length}
@@ -23,17 +23,18 @@ use Rattle.book.specs.Book.{empty, tariffIn, nothingKept, fresh, placeOf, sheet
 abbrev pub Recorded : Tariff → Type 0
 Recorded x = (y : Record) × (recordCheck y ≡ Pass) × (x ≡ tariffOf y)
 
--- a tariff that may be open: there is a sheet, and with it the tariff exceeds in no offered cell
-abbrev pub MayOpen : Option Sheet → Tariff → Type 0
-MayOpen none x = ⊥
-MayOpen (some s) x = firstOver (figuresOf s) x ≡ none
+-- a tariff that may be open: there is a sheet, and with it the tariff, unless it is under a direction, exceeds in no offered cell
+abbrev pub MayOpen : Option Sheet → (directed : Bool) → Tariff → Type 0
+MayOpen none d x = ⊥
+MayOpen (some s) d x = d ≡ false → firstOver (figuresOf s) x ≡ none
 
--- what may stand in a place, by its state: nothing, with zeros; such a tariff as a draft; or one that may be open, as a marked draft or open
+-- what may stand in a place, by its state: nothing, with zeros and no direction; such a tariff as a draft; or one that may be open, as a marked
+-- draft or open
 abbrev pub MayStandAs : Option Sheet → State → Place → Type 0
 MayStandAs s Empty p = p ≡ empty
 MayStandAs s Draft p = Recorded (tariffIn p)
-MayStandAs s Marked p = Recorded (tariffIn p) × MayOpen s (tariffIn p)
-MayStandAs s Open p = Recorded (tariffIn p) × MayOpen s (tariffIn p)
+MayStandAs s Marked p = Recorded (tariffIn p) × MayOpen s (p .directed) (tariffIn p)
+MayStandAs s Open p = Recorded (tariffIn p) × MayOpen s (p .directed) (tariffIn p)
 
 abbrev pub MayStand : Option Sheet → Place → Type 0
 MayStand s p = MayStandAs s (p .state) p

@@ -23,10 +23,10 @@ use Rattle.texts.specs.Writing.{Puts}
 use Rattle.answers.specs.Answers.{answerRoom}
 use Rattle.texts.proofs.Writing.{puts-behind, puts-none}
 use Rattle.lines.specs.Words.{between}
-use Rattle.request.specs.declared.CodeStep.{CodeStep}
-use Rattle.request.specs.declared.CodeStep.the-variants.{Put, Open, Close, Drop, Ask, Confirm}
-use Rattle.request.specs.declared.Word.the-variants.{On}
-use Rattle.request.specs.Requests.{arity, RightCount}
+use Rattle.naming.specs.declared.CodeStep.{CodeStep}
+use Rattle.naming.specs.declared.CodeStep.the-variants.{Put, Open, Close, Drop, Ask, Confirm, Direct}
+use Rattle.naming.specs.declared.Word.the-variants.{On}
+use Rattle.naming.specs.Naming.{arity, RightCount}
 use Rattle.protocol.specs.Lines.{Response, lineAt}
 use Rattle.protocol.specs.Promises.{Answered}
 use Rattle.book.specs.Settling.{keptAfter, storedIn, HasPlace}
@@ -116,6 +116,7 @@ some-number Close n h = omega arith
 some-number Drop n h = omega arith
 some-number Ask n h = omega arith
 some-number Confirm n h = omega arith
+some-number Direct n h = omega arith
 
 pub has-place : (b : Book) (numbers : List ℕ) (n i : ℕ) → Reachable b → 1 ≤ n
     → (i < 32) × (inside (getD numbers 0 0) ≡ true → suc i ≡ getD numbers 0 0)

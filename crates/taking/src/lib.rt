@@ -9,6 +9,7 @@ ghost use Rattle.book.specs.Book.{Reachable};
 ghost use Rattle.lines.specs.Words.{longestLine};
 ghost use Rattle.input.specs.Input.{Holds};
 ghost use Rattle.taking.specs.Taking.{hasRoom, Took};
+use answers::ANSWER_ROOM;
 use book::Book;
 use input::Input;
 use protocol::Said;
@@ -25,10 +26,10 @@ pub struct Desk {
 fn room(at: usize, size: usize, l: u64) -> bool
     ensures { λ r. ⌜ r ≡ hasRoom at size l ⌝ }
 {
-    if size < 344 {
+    if size < ANSWER_ROOM {
         return false;
     }
-    if size - 344 < at {
+    if size - ANSWER_ROOM < at {
         return false;
     }
     l < u64::MAX
@@ -44,7 +45,7 @@ pub fn take_lines(
     numbers: &mut [u32],
     out: &mut [u8],
 ) -> Desk
-    requires { ⌜ Reachable b × Holds i (length (now input)) × (longestLine ≤ length (now numbers)) ⌝ }
+    requires { ⌜ Reachable b × Holds i (length (now input)) × (length (now numbers) ≡ longestLine) ⌝ }
     ensures { λ r. ⌜ Took b lines i (now (input .entry)) (now (out .entry)) r (now (out .exit)) ⌝ }
 {
     let to = i.to;
@@ -95,8 +96,8 @@ pub fn take_lines(
                     book.kept = book::nothing_kept();
                 }
             }
-            Said::Tells(query, n, desk) => {
-                at = doing::do_tell(book, desk, query, &numbers[..n], out, at);
+            Said::Tells(question, n, desk) => {
+                at = doing::do_tell(book, desk, question, &numbers[..n], out, at);
             }
         }
         cut = false;

@@ -12,7 +12,8 @@ use Rattle.laws.specs.Notions.{every, sum, bit}
 use Rattle.laws.proofs.Every.{and-left, and-right, every-at}
 use Rattle.shares.specs.Shares.{wholeShare}
 use Rattle.tariff.specs.declared.Tariff.{Tariff}
-use Rattle.tariff.specs.Tariff.{allFourteen, rateMost, standingMost, stepMost, standingIn, ratesWithin, zeroFrom, within, rising, singleRegister, economy7, multiRegister, validKind, regionFits, validTariff}
+use Rattle.fours.specs.Fours.{zeroFrom, within, rising}
+use Rattle.tariff.specs.Tariff.{allFourteen, rateMost, standingMost, stepMost, standingIn, ratesWithin, singleRegister, economy7, multiRegister, validKind, regionFits, validTariff}
 
 -- the parts of joined tests that hold
 three : (a b c : Bool) → (a && b && c) ≡ true → (a ≡ true) × (b ≡ true) × (c ≡ true)

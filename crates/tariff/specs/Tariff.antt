@@ -11,6 +11,7 @@ use Rattle.refusal.specs.declared.Check.{Check}
 use Rattle.refusal.specs.declared.Check.the-variants.{Pass}
 use Rattle.refusal.specs.Checks.{unless}
 use Rattle.shares.specs.Shares.{wholeShare}
+use Rattle.fours.specs.Fours.{within, zeroFrom, rising}
 use Rattle.tariff.specs.declared.Tariff.{Tariff}
 
 -- the most of a rate, of a standing charge and of a step
@@ -52,21 +53,9 @@ tariffOf x =
 unfoldable pub standingIn : Tariff → ℕ → ℕ
 standingIn x region = x .standing + getD (x .regional) region 0
 
--- the first k numbers are from low to high
-unfoldable pub within : List ℕ → ℕ → ℕ → ℕ → Bool
-within a k low high = every k (λ i. leb low (getD a i 0) && leb (getD a i 0) high)
-
 -- rates in mills per kWh, 0 to 200,000
 unfoldable pub ratesWithin : List ℕ → Bool
 ratesWithin rates = within rates 4 0 rateMost
-
--- "Places beyond those used are 0": of four places, those from k on
-unfoldable pub zeroFrom : List ℕ → ℕ → Bool
-zeroFrom a k = every 4 (λ i. ltb i k || eqb (getD a i 0) 0)
-
--- the first k numbers rise strictly
-unfoldable pub rising : List ℕ → ℕ → Bool
-rising a k = every (k - 1) (λ i. ltb (getD a i 0) (getD a (i + 1) 0))
 
 -- "Kind 1, single-register: n 1 to 4, n - 1 steps strictly rising, 1 to 9,999."
 unfoldable pub singleRegister : Tariff → Bool

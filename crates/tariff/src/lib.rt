@@ -8,7 +8,7 @@ ghost use Prim.Native.Nat.{_+_, _≤_, _<_};
 ghost use lib.Dec.{leb, eqb};
 ghost use lib.ListN.{length, take};
 ghost use Rattle.laws.specs.Notions.{every, sum, bit};
-ghost use Rattle.tariff.specs.Tariff.{standingMost, recordLength, tariffOf, standingIn, zeroFrom, within, rising, singleRegister, economy7, multiRegister, regionFits, validTariff, recordCheck};
+ghost use Rattle.tariff.specs.Tariff.{standingMost, recordLength, tariffOf, standingIn, singleRegister, economy7, multiRegister, regionFits, validTariff, recordCheck};
 use refusal::Check;
 use shares::WHOLE;
 use shares::WHOLE_SHARE;
@@ -78,75 +78,6 @@ pub fn has(set: u32, i: u32) -> bool
     (set >> i) % 2 == 1
 }
 
-// The places from k on are 0.
-fn zero_from(a: [u32; 4], k: usize) -> bool
-    requires { ⌜ k ≤ 4 ⌝ }
-    ensures { λ r. ⌜ r ≡ zeroFrom a k ⌝ }
-{
-    let mut i: usize = k;
-    while i < 4 {
-        if a[i] != 0 {
-            return false;
-        }
-        i += 1;
-    }
-    true
-}
-
-// The first k numbers are from low to high.
-fn all_within(a: [u32; 4], k: usize, low: u32, high: u32) -> bool
-    requires { ⌜ k ≤ 4 ⌝ }
-    ensures { λ r. ⌜ r ≡ within a k low high ⌝ }
-{
-    let mut i: usize = 0;
-    while i < k {
-        if a[i] < low {
-            return false;
-        }
-        if high < a[i] {
-            return false;
-        }
-        i += 1;
-    }
-    true
-}
-
-// The first k numbers rise strictly.
-fn all_rising(a: [u32; 4], k: usize) -> bool
-    requires { ⌜ k ≤ 4 ⌝ }
-    ensures { λ r. ⌜ r ≡ rising a k ⌝ }
-{
-    let mut i: usize = 0;
-    while i + 1 < k {
-        if a[i + 1] <= a[i] {
-            return false;
-        }
-        i += 1;
-    }
-    true
-}
-
-// The sum of the first k numbers.
-fn sum_of(a: [u32; 4], k: usize) -> u64
-    requires { ⌜ k ≤ 4 ⌝ }
-    ensures { λ r. ⌜ r ≡ sum (take k a) ⌝ }
-{
-    let mut sum: u64 = 0;
-    let mut i: usize = 0;
-    while i < k {
-        sum += wide(a[i]);
-        i += 1;
-    }
-    sum
-}
-
-// A number of 32 bits as one of 64.
-fn wide(x: u32) -> u64
-    ensures { λ r. ⌜ (r ≡ x) × (r ≤ 4294967295) ⌝ }
-{
-    x as u64
-}
-
 fn single_register(x: Tariff) -> bool
     ensures { λ r. ⌜ r ≡ singleRegister x ⌝ }
 {
@@ -159,10 +90,10 @@ fn single_register(x: Tariff) -> bool
     if 4 < tiers {
         return false;
     }
-    all_within(steps, tiers - 1, 1, STEP_MOST)
-        && all_rising(steps, tiers - 1)
-        && zero_from(rates, tiers)
-        && zero_from(steps, tiers - 1)
+    fours::all_within(steps, tiers - 1, 1, STEP_MOST)
+        && fours::all_rising(steps, tiers - 1)
+        && fours::zero_from(rates, tiers)
+        && fours::zero_from(steps, tiers - 1)
 }
 
 fn economy_7(x: Tariff) -> bool
@@ -170,7 +101,7 @@ fn economy_7(x: Tariff) -> bool
 {
     let rates = x.rates;
     let steps = x.steps;
-    x.n == 2 && zero_from(rates, 2) && zero_from(steps, 0)
+    x.n == 2 && fours::zero_from(rates, 2) && fours::zero_from(steps, 0)
 }
 
 fn multi_register(x: Tariff) -> bool
@@ -185,17 +116,18 @@ fn multi_register(x: Tariff) -> bool
     if 4 < registers {
         return false;
     }
-    all_within(steps, registers, 0, WHOLE_SHARE)
-        && sum_of(steps, registers) == WHOLE
-        && zero_from(rates, registers)
-        && zero_from(steps, registers)
+    fours::all_within(steps, registers, 0, WHOLE_SHARE)
+        && fours::sum_of(steps, registers) == WHOLE
+        && fours::zero_from(rates, registers)
+        && fours::zero_from(steps, registers)
 }
 
 // Whether what a region adds leaves its standing charge within the most, and is 0 where the region is not offered.
 fn region_fits(standing: u32, added: u32, offered: bool) -> bool
     ensures { λ r. ⌜ r ≡ (leb (standing + added) standingMost && (offered || eqb added 0)) ⌝ }
 {
-    wide(standing) + wide(added) <= wide(STANDING_MOST) && (offered || added == 0)
+    fours::wide(standing) + fours::wide(added) <= fours::wide(STANDING_MOST)
+        && (offered || added == 0)
 }
 
 // Whether each of the fourteen regions has a number that fits.
@@ -243,7 +175,7 @@ fn is_valid(x: Tariff) -> bool
     if 3 < x.methods {
         return false;
     }
-    if !all_within(rates, 4, 0, RATE_MOST) {
+    if !fours::all_within(rates, 4, 0, RATE_MOST) {
         return false;
     }
     if !regions_fit(x) {

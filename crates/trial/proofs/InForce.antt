@@ -1,22 +1,25 @@
 -- A trial of the sheet in force: nothing falls.
 -- Assumes nothing.
 use mathlib.Core.Path.{_≡_, refl, _∙_, ap, subst}
-use mathlib.Core.Bool.{Bool, true, false, _&&_}
+use mathlib.Core.Bool.{Bool, true, false, _&&_, _||_}
 use mathlib.Core.List.{List, map}
-use mathlib.Core.Option.{some}
+use mathlib.Core.Option.{none, some}
 use Prim.Native.Nat.{ℕ, suc, _<_}
 use native.Mathlib.Omega.{arith}
 use Rattle.laws.proofs.Never.{never}
 use Rattle.laws.proofs.Sets.{set-none}
 use Rattle.refusal.specs.declared.Check.the-variants.{Pass}
+use Rattle.benchmark.specs.declared.Benchmarks.{Benchmarks}
 use Rattle.benchmark.specs.Benchmark.{setCheck}
+use Rattle.tariff.specs.declared.Tariff.{Tariff}
 use Rattle.tariff.specs.Tariff.{allFourteen}
+use Rattle.verdict.specs.Cells.{firstOver}
 use Rattle.book.specs.declared.State.{State}
 use Rattle.book.specs.declared.State.the-variants.{Empty, Draft, Marked, Open}
 use Rattle.book.specs.declared.Place.{Place}
 use Rattle.book.specs.declared.Book.{Book}
 use Rattle.book.specs.Calls.{Sheet, isNone}
-use Rattle.book.specs.Checks.{figuresOf, isOpen}
+use Rattle.book.specs.Checks.{isOpen, figuresOf, complies}
 use Rattle.book.specs.Book.{tariffIn, placeOf, heldIn, sheetIf, sheetIn, inForce, openIf, stateUnder, under, Reachable}
 use Rattle.book.proofs.Places.{in-range, at-map}
 use Rattle.stands.specs.Stands.{MayStandAs}
@@ -27,12 +30,16 @@ use Rattle.trial.specs.Places.{fell, fellFrom}
 use Rattle.trial.proofs.Trials.{trial-told}
 
 -- what may stand in a place under a sheet does not fall under it
+still : (f : Benchmarks) (directed : Bool) (x : Tariff) → (directed ≡ false → firstOver f x ≡ none) → (directed || complies f x) ≡ true
+still f true x h = refl
+still f false x h = ap isNone (h refl)
+
 pub stays : (s : Sheet) (q : State) (p : Place) → MayStandAs (some s) q p
-    → (isOpen (heldIn q (tariffIn p)) && isDraft (heldIn (stateUnder (figuresOf s) q (tariffIn p)) (tariffIn p))) ≡ false
+    → (isOpen (heldIn q (p .directed) (tariffIn p)) && isDraft (heldIn (stateUnder (figuresOf s) q (p .directed) (tariffIn p)) (p .directed) (tariffIn p))) ≡ false
 stays s Empty p h = refl
 stays s Draft p h = refl
 stays s Marked p h = refl
-stays s Open p h = ap (λ o. isDraft (heldIn (openIf (isNone o)) (tariffIn p))) (h .1)
+stays s Open p h = ap (λ t. isDraft (heldIn (openIf t) (p .directed) (tariffIn p))) (still (figuresOf s) (p .directed) (tariffIn p) (h .1))
 
 -- the sheet in force is the book's
 loaded-by : (l : Bool) (d s : Sheet) → sheetIf l d ≡ some s → (l ≡ true) × (d ≡ s)

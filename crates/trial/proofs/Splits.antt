@@ -24,11 +24,11 @@ use Rattle.trial.specs.Places.{fell}
 use Rattle.trial.proofs.InForce.{stays}
 
 module _ (s t : Sheet) (period : t .period ≡ s .period) (fields : AlikeButSplit (t .fields) (s .fields)) where
-  may-open : (p : Place) → eqb (p .kind) 2 ≡ false → MayOpen (some s) (tariffIn p) → MayOpen (some t) (tariffIn p)
-  may-open p other h =
+  may-open : (p : Place) → eqb (p .kind) 2 ≡ false → MayOpen (some s) (p .directed) (tariffIn p) → MayOpen (some t) (p .directed) (tariffIn p)
+  may-open p other h without =
       ap (λ d. firstOver (benchmarksOf (t .fields) d) (tariffIn p)) period
       ∙ first-of-sheets (t .fields) (s .fields) fields (s .period) (tariffIn p) other
-      ∙ h
+      ∙ h without
 
   -- what may stand in a place under the one may stand there under the other
   may-stand : (q : State) (p : Place) → eqb (p .kind) 2 ≡ false → MayStandAs (some s) q p → MayStandAs (some t) q p

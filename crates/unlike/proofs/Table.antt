@@ -15,7 +15,8 @@ use Rattle.sheet.specs.Sheet.{peakShare, signed, valueOf, rangeOf, fieldInRange
 use Rattle.benchmark.specs.declared.Benchmarks.{Benchmarks}
 use Rattle.benchmark.specs.Benchmark.{benchmark, wc, pc, oc, nc, paenc, headroom, panc, figure, figures, ocsFit, ordered, setCheck}
 use Rattle.benchmark.specs.Common.{costsAt, sumFrom, common, commonAt, commons}
-use Rattle.tariff.specs.Tariff.{tariffOf, standingIn, recordCheck, validTariff, regionFits, validKind, singleRegister, economy7, multiRegister, ratesWithin, zeroFrom, within, rising}
+use Rattle.fours.specs.Fours.{zeroFrom, within, rising}
+use Rattle.tariff.specs.Tariff.{tariffOf, standingIn, recordCheck, validTariff, regionFits, validKind, singleRegister, economy7, multiRegister, ratesWithin}
 use Rattle.charge.specs.Charge.{arrangement, tierCharge, monthCharge, charge}
 use Rattle.charge.specs.Tiers.{tiersOf}
 use Rattle.cap.specs.Cap.{maximum, charged, capped, excess}

@@ -87,12 +87,12 @@ unfolding recordCheck
 no-record = refl
 
 -- CLOSE after a SET: accepted where the tariff still opens under the new sheet, and 12 where it is a draft
-closed-if : (s : Sheet) (x : Record) (v : Verdict) → verdict (figuresOf s) (tariffOf x) ≡ v
+pub closed-if : (s : Sheet) (x : Record) (v : Verdict) → verdict (figuresOf s) (tariffOf x) ≡ v
     → need refused (complies (figuresOf s) (tariffOf x)) 12 accepted ≡ need refused (isOpening v) 12 accepted
 closed-if s x v e = ap (λ t. need refused t 12 accepted) (complying (figuresOf s) (tariffOf x) ∙ ap isOpening e)
 
 -- and OPEN: 7 where it is open still, or its verdict
-opened-if : (s : Sheet) (x : Record) (v : Verdict) → verdict (figuresOf s) (tariffOf x) ≡ v
+pub opened-if : (s : Sheet) (x : Record) (v : Verdict) → verdict (figuresOf s) (tariffOf x) ≡ v
     → need refused (not (complies (figuresOf s) (tariffOf x))) 7 (verdictAnswer (verdict (figuresOf s) (tariffOf x)))
     ≡ need refused (not (isOpening v)) 7 (verdictAnswer v)
 opened-if s x v e = ap₂ (λ t w. need refused (not t) 7 (verdictAnswer w)) (complying (figuresOf s) (tariffOf x) ∙ ap isOpening e) e

@@ -1,6 +1,1 @@
 pub mod Worked
-pub mod Refusals
-pub mod Queried
-pub mod Tried
-pub mod Desks
-pub mod Apart

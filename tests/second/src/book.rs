@@ -9,6 +9,9 @@ pub const PLACES: usize = 32;
 
 const TOTAL_LIMIT: u32 = 120_000;
 
+/// The most accounts of one rebate run.
+pub const RUN_LIMIT: usize = 1_000_000;
+
 /// A refusal that carries nothing but its number.
 #[derive(Clone, Copy, Debug, PartialEq, Eq, Hash)]
 #[repr(u8)]
@@ -87,6 +90,43 @@ pub struct Quote {
     pub maximum: u64,
 }
 
+/// What a household used of a tariff in the months of the period, and what it is owed.
+#[derive(Clone, Copy, Debug, PartialEq, Eq)]
+pub struct Account {
+    pub code: u32,
+    pub region: u32,
+    pub method: u32,
+    /// The number of its months.
+    pub count: u32,
+    /// The months, in kWh; the places past `count` may hold anything.
+    pub months: [u32; 12],
+    /// In mills; the run writes it.
+    pub rebate: u64,
+}
+
+/// Why a rebate run was not done, with the place in the list of the first such account.
+#[derive(Clone, Copy, Debug, PartialEq, Eq)]
+pub enum NotRun {
+    /// Refusal 18: its tariff is not open under a direction.
+    NotDirected(usize),
+    /// Refusal 19: QUOTE would refuse it, or it is past the most accounts of a run.
+    NotQuoted(usize),
+}
+
+impl NotRun {
+    pub fn number(&self) -> u32 {
+        match self {
+            NotRun::NotDirected(_) => 18,
+            NotRun::NotQuoted(_) => 19,
+        }
+    }
+
+    pub fn place(&self) -> usize {
+        let (NotRun::NotDirected(place) | NotRun::NotQuoted(place)) = *self;
+        place
+    }
+}
+
 /// What a place holds.
 #[derive(Clone, Copy, Debug, PartialEq, Eq)]
 pub enum State {
@@ -128,7 +168,11 @@ pub struct Book {
     places: [Place; PLACES],
     /// The places whose drafts are marked, bit code - 1 for each.
     marks: u32,
-    /// How to take back the last SET, until a call is accepted that changes a place or marks it.
+    /// The places whose tariffs are under a direction, likewise. There is no step to take back that
+    /// another set belongs to.
+    directions: u32,
+    /// How to take back the last SET, until a call is accepted that changes a place, marks it or
+    /// puts it under a direction.
     step: Option<Step>,
 }
 
@@ -145,12 +189,13 @@ impl Book {
             sheet: None,
             places: [Place::Empty; PLACES],
             marks: 0,
+            directions: 0,
             step: None,
         }
     }
 
-    /// Replaces the sheet; open tariffs that exceed under it become drafts, and no draft is marked
-    /// any more.
+    /// Replaces the sheet; open tariffs that exceed under it become drafts, but for those under a
+    /// direction, and no draft is marked any more.
     pub fn set_by(
         &mut self,
         desk: DeskRegions,
@@ -164,7 +209,8 @@ impl Book {
         let mut fallen = 0;
         for (index, place) in self.places.iter_mut().enumerate() {
             if let Place::Open(tariff) = place {
-                if sheet.first_breach(tariff).is_some() {
+                let directed = self.directions >> index & 1 == 1;
+                if !directed && sheet.first_breach(tariff).is_some() {
                     *place = Place::Draft(*tariff);
                     fallen |= 1 << index;
                 }
@@ -222,8 +268,8 @@ impl Book {
         Ok(fallen)
     }
 
-    /// Puts a tariff record into a place as a draft without a mark, over any draft that is the
-    /// desk's own.
+    /// Puts a tariff record into a place as a draft without a mark or a direction, over any draft
+    /// that is the desk's own.
     pub fn put_by(&mut self, desk: DeskRegions, code: u32, numbers: &[u32]) -> Result<(), Refusal> {
         let index = index(code)?;
         let place = &self.places[index];
@@ -236,26 +282,37 @@ impl Book {
         }
         inside(desk, &tariff)?;
         self.change(index, Place::Draft(tariff));
+        self.directions &= !(1 << index);
         Ok(())
     }
 
-    /// Opens a draft that is within the cap in all its cells, and gives their number.
-    pub fn open_by(&mut self, desk: DeskRegions, code: u32) -> Result<u32, NotOpened> {
-        let (index, &tariff) = self.draft_within_the_cap(desk, code)?;
-        self.change(index, Place::Open(tariff));
-        Ok(tariff.cells())
+    /// Puts a draft under a direction, whether it has one or not. Its mark stays as it is.
+    pub fn direct_by(&mut self, desk: DeskRegions, code: u32) -> Result<(), Refusal> {
+        all_fourteen(desk)?;
+        let (index, _) = self.draft(desk, code)?;
+        self.directions |= 1 << index;
+        self.step = None;
+        Ok(())
     }
 
-    /// Marks a draft that OPEN would open, marked or not, and gives the number of its cells.
+    /// Opens a draft that is within the cap in all its cells, or under a direction, and gives their
+    /// number, or 0.
+    pub fn open_by(&mut self, desk: DeskRegions, code: u32) -> Result<u32, NotOpened> {
+        let (index, &tariff) = self.draft_to_open(desk, code)?;
+        self.change(index, Place::Open(tariff));
+        Ok(self.cells(index, &tariff))
+    }
+
+    /// Marks a draft that OPEN would open, marked or not, and gives the number that OPEN would.
     pub fn ask_by(&mut self, desk: DeskRegions, code: u32) -> Result<u32, NotOpened> {
-        let (index, tariff) = self.draft_within_the_cap(desk, code)?;
-        let cells = tariff.cells();
+        let (index, tariff) = self.draft_to_open(desk, code)?;
+        let cells = self.cells(index, tariff);
         self.marks |= 1 << index;
         self.step = None;
         Ok(cells)
     }
 
-    /// Opens a marked draft, and gives the number of its cells. The cap needs no second look: the
+    /// Opens a marked draft, and gives the number that OPEN would. The cap needs no second look: the
     /// sheet is the one that the draft was marked under.
     pub fn confirm_by(&mut self, desk: DeskRegions, code: u32) -> Result<u32, Refusal> {
         let (index, &tariff) = self.draft(desk, code)?;
@@ -263,7 +320,7 @@ impl Book {
             return Err(Refusal::NotMarked);
         }
         self.change(index, Place::Open(tariff));
-        Ok(tariff.cells())
+        Ok(self.cells(index, &tariff))
     }
 
     /// Makes an open tariff a draft again, without a mark.
@@ -280,6 +337,7 @@ impl Book {
     pub fn drop_code_by(&mut self, desk: DeskRegions, code: u32) -> Result<(), Refusal> {
         let (index, _) = self.draft(desk, code)?;
         self.change(index, Place::Empty);
+        self.directions &= !(1 << index);
         Ok(())
     }
 
@@ -336,29 +394,35 @@ impl Book {
         method: u32,
         months: &[u32],
     ) -> Result<Quote, Refusal> {
-        let place = &self.places[index(code)?];
-        let tariff = place.tariff().ok_or(Refusal::PlaceEmpty)?;
-        let sheet = self.sheet.as_ref().ok_or(Refusal::NoSheet)?;
-        if !tariff.offers_region(region)
-            || !tariff.offers_method(method)
-            || months.len() != sheet.t as usize
-            || months.iter().any(|&kwh| kwh > MONTH_LIMIT)
-        {
-            return Err(Refusal::Argument);
-        }
-        inside(desk, tariff)?;
-        let (region, method) = (region as usize, method as usize);
-        let arrangement = tariff.arrangement();
-        let whole = u64::from(WHOLE);
-        let standing = whole * u64::from(tariff.standing(region)) * u64::from(sheet.days);
-        let tiers = tariff.tiers(sheet.peak_share);
-        let units: u64 = months.iter().map(|&kwh| tiers.month_charge(kwh)).sum();
-        let total = months.iter().map(|&kwh| u64::from(kwh)).sum();
-        let maximum = sheet.maximum(region, arrangement, method, total);
+        let asked = self.asked(desk, code, region, method, months)?;
         Ok(Quote {
-            charge: 12 * u64::from(sheet.m(arrangement)) * (standing + units),
-            maximum: whole * maximum,
+            charge: asked.scale() * asked.charge(),
+            maximum: u64::from(WHOLE) * asked.maximum(),
         })
+    }
+
+    /// Writes into each account the rebate due: the charge less the maximum for its months in
+    /// mills, rounded up, or 0. Gives their sum.
+    pub fn rebate_by(&self, desk: DeskRegions, accounts: &mut [Account]) -> Result<u64, NotRun> {
+        let mut not_directed = None;
+        for (place, account) in accounts.iter().enumerate() {
+            if place >= RUN_LIMIT || self.account(desk, account).is_err() {
+                return Err(NotRun::NotQuoted(place));
+            }
+            if not_directed.is_none() && !self.is_open_under_a_direction(account.code) {
+                not_directed = Some(place);
+            }
+        }
+        if let Some(place) = not_directed {
+            return Err(NotRun::NotDirected(place));
+        }
+        let mut total = 0;
+        for account in accounts {
+            let asked = self.account(desk, account);
+            account.rebate = asked.expect("an account looked at before").rebate();
+            total += account.rebate;
+        }
+        Ok(total)
     }
 
     /// What the place of a code holds; `None` for a code outside 1 to 32.
@@ -374,6 +438,15 @@ impl Book {
     /// Whether the place of a code holds a marked draft.
     pub fn is_marked(&self, code: u32) -> bool {
         index(code).is_ok_and(|index| self.marks >> index & 1 == 1)
+    }
+
+    /// Whether the place of a code holds a tariff under a direction.
+    pub fn is_directed(&self, code: u32) -> bool {
+        index(code).is_ok_and(|index| self.directions >> index & 1 == 1)
+    }
+
+    fn is_open_under_a_direction(&self, code: u32) -> bool {
+        self.is_directed(code) && self.state(code) == Some(State::Open)
     }
 
     /// The months t of the sheet's period, if there is a sheet.
@@ -398,18 +471,66 @@ impl Book {
         Ok((index, tariff))
     }
 
-    /// The same with all the checks of OPEN, and so 10 and 11 after them.
-    fn draft_within_the_cap(
-        &self,
-        desk: DeskRegions,
-        code: u32,
-    ) -> Result<(usize, &Tariff), NotOpened> {
+    /// The same with all the checks of OPEN, and so 10 after them, and 11 without a direction.
+    fn draft_to_open(&self, desk: DeskRegions, code: u32) -> Result<(usize, &Tariff), NotOpened> {
         let (index, tariff) = self.draft(desk, code)?;
         let sheet = self.sheet.as_ref().ok_or(Refusal::NoSheet)?;
-        match sheet.first_breach(tariff) {
-            Some(breach) => Err(NotOpened::OverCap(breach)),
-            None => Ok((index, tariff)),
+        if !self.is_directed(code) {
+            if let Some(breach) = sheet.first_breach(tariff) {
+                return Err(NotOpened::OverCap(breach));
+            }
         }
+        Ok((index, tariff))
+    }
+
+    /// The number of cells in which the tariff of a place was found to be within the cap: none under
+    /// a direction.
+    fn cells(&self, index: usize, tariff: &Tariff) -> u32 {
+        if self.directions >> index & 1 == 1 {
+            0
+        } else {
+            tariff.cells()
+        }
+    }
+
+    /// What a quote is asked for, with all the checks of QUOTE.
+    fn asked<'a>(
+        &'a self,
+        desk: DeskRegions,
+        code: u32,
+        region: u32,
+        method: u32,
+        months: &'a [u32],
+    ) -> Result<Asked<'a>, Refusal> {
+        let place = &self.places[index(code)?];
+        let tariff = place.tariff().ok_or(Refusal::PlaceEmpty)?;
+        let sheet = self.sheet.as_ref().ok_or(Refusal::NoSheet)?;
+        if !tariff.offers_region(region)
+            || !tariff.offers_method(method)
+            || months.len() != sheet.t as usize
+            || months.iter().any(|&kwh| kwh > MONTH_LIMIT)
+        {
+            return Err(Refusal::Argument);
+        }
+        inside(desk, tariff)?;
+        Ok(Asked {
+            sheet,
+            tariff,
+            region: region as usize,
+            method: method as usize,
+            months,
+        })
+    }
+
+    /// The quote of an account. More than twelve months are more than any t.
+    fn account<'a>(
+        &'a self,
+        desk: DeskRegions,
+        account: &'a Account,
+    ) -> Result<Asked<'a>, Refusal> {
+        let months = account.months.get(..account.count as usize);
+        let months = months.ok_or(Refusal::Argument)?;
+        self.asked(desk, account.code, account.region, account.method, months)
     }
 
     /// A place holds something else from now on, which has no mark. The last SET is there to stay.
@@ -417,6 +538,45 @@ impl Book {
         self.places[index] = place;
         self.marks &= !(1 << index);
         self.step = None;
+    }
+}
+
+/// A tariff, draft or open, in one of its cells under the sheet in force, and t months.
+struct Asked<'a> {
+    sheet: &'a Sheet,
+    tariff: &'a Tariff,
+    region: usize,
+    method: usize,
+    months: &'a [u32],
+}
+
+impl Asked<'_> {
+    /// 12 x m.
+    fn scale(&self) -> u64 {
+        12 * u64::from(self.sheet.m(self.tariff.arrangement()))
+    }
+
+    /// In thousandths of a mill.
+    fn charge(&self) -> u64 {
+        let standing = u64::from(self.tariff.standing(self.region)) * u64::from(self.sheet.days);
+        let tiers = self.tariff.tiers(self.sheet.peak_share);
+        let units: u64 = self.months.iter().map(|&kwh| tiers.month_charge(kwh)).sum();
+        u64::from(WHOLE) * standing + units
+    }
+
+    /// 12 x m times the mills.
+    fn maximum(&self) -> u64 {
+        let total = self.months.iter().map(|&kwh| u64::from(kwh)).sum();
+        let arrangement = self.tariff.arrangement();
+        self.sheet
+            .maximum(self.region, arrangement, self.method, total)
+    }
+
+    /// The charge less the maximum in whole mills, rounded up, or 0.
+    fn rebate(&self) -> u64 {
+        let (scale, whole) = (self.scale(), u64::from(WHOLE));
+        let over = (scale * self.charge()).saturating_sub(whole * self.maximum());
+        over.div_ceil(scale * whole)
     }
 }
 
@@ -436,6 +596,10 @@ impl Book {
 
     pub fn put(&mut self, code: u32, numbers: &[u32]) -> Result<(), Refusal> {
         self.put_by(DeskRegions::ALL, code, numbers)
+    }
+
+    pub fn direct(&mut self, code: u32) -> Result<(), Refusal> {
+        self.direct_by(DeskRegions::ALL, code)
     }
 
     pub fn open(&mut self, code: u32) -> Result<u32, NotOpened> {
@@ -487,6 +651,10 @@ impl Book {
     ) -> Result<Quote, Refusal> {
         self.quote_by(DeskRegions::ALL, code, region, method, months)
     }
+
+    pub fn rebate(&self, accounts: &mut [Account]) -> Result<u64, NotRun> {
+        self.rebate_by(DeskRegions::ALL, accounts)
+    }
 }
 
 fn index(code: u32) -> Result<usize, Refusal> {
@@ -513,7 +681,7 @@ fn inside_or_17(is_inside: bool) -> Result<(), Refusal> {
     }
 }
 
-/// SET, TRIAL and UNDO are for a desk with all fourteen regions.
+/// SET, TRIAL, UNDO and DIRECT are for a desk with all fourteen regions.
 fn all_fourteen(desk: DeskRegions) -> Result<(), Refusal> {
     inside_or_17(desk.has_all())
 }

@@ -31,7 +31,7 @@ const SILENT: [&[u8]; 8] = [
 ];
 
 /// Lines that have an answer whatever the book holds.
-const ANSWERED: [&[u8]; 22] = [
+const ANSWERED: [&[u8]; 28] = [
     b"open 33",
     b"open",
     b"opens 1",
@@ -48,6 +48,12 @@ const ANSWERED: [&[u8]; 22] = [
     b"ask",
     b"  confirm   0 \r",
     b"confirm 1 x",
+    b"direct 33",
+    b"direct",
+    b"rebate",
+    b" rebate  \r",
+    b"rebate 1 2 3",
+    b"desk 0 rebate",
     b"desk 3 open 33",
     b"  desk   0  undo \r",
     b"desk",
@@ -128,6 +134,12 @@ impl Conversation {
                 }
                 if self.line.starts_with(b"confirm ") {
                     self.tally.one("confirms answered in conversation");
+                }
+                if self.line.starts_with(b"direct ") {
+                    self.tally.one("directs answered in conversation");
+                }
+                if self.line.starts_with(b"rebate") {
+                    self.tally.one("rebates answered in conversation");
                 }
                 if self.line.starts_with(b"desk ") {
                     self.tally.one("lines of desks answered in conversation");
@@ -294,6 +306,8 @@ impl Conversation {
                 b"undo",
                 b"ask 33",
                 b"confirm 33",
+                b"direct 33",
+                b"rebate",
                 b"desk 3 open 33",
                 b"desk 0 undo",
                 b"desk 16383",

@@ -10,6 +10,7 @@ use crate::sheet::{field_range, field_value, FIELDS};
 use crate::tally::Tally;
 use crate::tariff::{MONTH_LIMIT, RATE_LIMIT, RECORD, REGIONAL, STANDING_LIMIT, WHOLE};
 use desks::is_part;
+use directions::Direction;
 use marks::Mark;
 use regions::Quoted;
 use savings::is_saving;
@@ -44,6 +45,9 @@ pub struct Counts {
     /// How far the last calls have come in SET, SET, UNDO, UNDO.
     in_a_row: u32,
     marks: [Mark; PLACES],
+    directions: [Direction; PLACES],
+    /// The set of codes that fell by a SET and were not opened, put or dropped since.
+    fell: u32,
     /// The set of codes that CONFIRM opened last.
     confirmed: u32,
     /// The set of codes that a desk without all fourteen opened last, by either road.
@@ -77,6 +81,8 @@ impl Default for Counts {
             last: None,
             in_a_row: 0,
             marks: [Mark::default(); PLACES],
+            directions: [Direction::default(); PLACES],
+            fell: 0,
             confirmed: 0,
             opened_by_part: 0,
             desk: None,
@@ -100,7 +106,9 @@ macro_rules! count {
 }
 
 mod desks;
+mod directions;
 mod marks;
+mod rebates;
 mod regions;
 mod savings;
 mod splits;
@@ -121,6 +129,8 @@ impl Counts {
         self.last = None;
         self.in_a_row = 0;
         self.marks = [Mark::default(); PLACES];
+        self.directions = [Direction::default(); PLACES];
+        self.fell = 0;
         self.confirmed = 0;
         self.opened_by_part = 0;
         self.desk = None;
@@ -205,6 +215,7 @@ impl Counts {
             self.quoted = None;
             self.trial_is_past();
             let chance = self.chance.is_some();
+            self.after_directions(call, &numbers, refusal, &values, book);
             self.after_marks(call, &numbers, refusal, &values, book);
             self.after_call(call, refusal, chance);
         } else {
@@ -255,8 +266,10 @@ impl Counts {
             }
             "benchmark" | "maximum" => self.question(call, numbers, refusal, values),
             "quote" => self.quote(numbers, refusal, values),
+            "rebate" => self.rebate(numbers, refusal, values, book),
             _ => {}
         }
+        self.after_directions(call, numbers, refusal, values, book);
         self.after_marks(call, numbers, refusal, values, book);
         self.after_call(call, refusal, chance);
     }
@@ -298,6 +311,7 @@ impl Counts {
         self.at_shares.clear();
         self.saving = is_saving(&numbers[3..]);
         self.accepted_sheet([numbers[0], numbers[1], numbers[2]], &numbers[3..], book);
+        self.directions_after_set(fallen);
     }
 
     /// A call that takes a sheet was refused: for what, if that is all that was wrong.
@@ -484,6 +498,9 @@ impl Counts {
                 self.opened_by(place);
                 self.tally.different("codes opened", numbers[0].into());
                 self.tally.different("numbers of cells opened", values[0]);
+                if values[0] == 0 {
+                    return;
+                }
                 self.shape("opened", &record);
                 self.opened_by_region(&record);
                 if record[0] == 2 {

@@ -2,11 +2,13 @@
 
 use std::io::BufRead;
 
-use crate::book::{Book, NotOpened, Refusal};
+use crate::book::{Account, Book, NotOpened, NotRun, Refusal};
 use crate::regions::DeskRegions;
 
 /// The longest line taken, its line feed not counted.
 pub const LINE_LIMIT: usize = 16_384;
+/// The numbers of an account in a line: code, region, method, count and twelve months.
+pub const ACCOUNT: usize = 16;
 
 #[derive(Clone, Copy)]
 enum Call {
@@ -22,6 +24,8 @@ enum Call {
     Benchmark,
     Maximum,
     Quote,
+    Direct,
+    Rebate,
 }
 
 impl Call {
@@ -39,6 +43,8 @@ impl Call {
             b"benchmark" => Call::Benchmark,
             b"maximum" => Call::Maximum,
             b"quote" => Call::Quote,
+            b"direct" => Call::Direct,
+            b"rebate" => Call::Rebate,
             _ => return None,
         })
     }
@@ -57,6 +63,8 @@ impl Call {
             Call::Benchmark => "benchmark takes 4 numbers",
             Call::Maximum => "maximum takes 4 numbers",
             Call::Quote => "quote takes at least 3 numbers",
+            Call::Direct => "direct takes 1 number",
+            Call::Rebate => "rebate takes 16 numbers an account",
         }
     }
 }
@@ -75,6 +83,7 @@ pub struct Desk {
     book: Book,
     lines: u64,
     numbers: Vec<u32>,
+    accounts: Vec<Account>,
     /// The beginning of a line whose end has not come in yet.
     begun: Vec<u8>,
     too_long: bool,
@@ -92,6 +101,7 @@ impl Desk {
             book: Book::new(),
             lines: 0,
             numbers: Vec::with_capacity(LINE_LIMIT / 2),
+            accounts: Vec::new(),
             begun: Vec::with_capacity(LINE_LIMIT),
             too_long: false,
         }
@@ -229,6 +239,15 @@ impl Desk {
                     Err(refusal) => refused(refusal, out),
                 }
             }
+            (Call::Direct, &[code]) => accepted(book.direct_by(desk, code), out),
+            (Call::Rebate, numbers) if numbers.len().is_multiple_of(ACCOUNT) => {
+                read_accounts(numbers, &mut self.accounts);
+                rebates(
+                    book.rebate_by(desk, &mut self.accounts),
+                    &self.accounts,
+                    out,
+                );
+            }
             _ => return Err(LineError::Count(call)),
         }
         Ok(())
@@ -299,6 +318,22 @@ fn read_numbers(rest: &[u8], words: usize, numbers: &mut Vec<u32>) -> Result<(),
     Err(LineError::NotANumber(words + numbers.len() + 1))
 }
 
+/// Reads accounts of 16 numbers each into `accounts`.
+fn read_accounts(numbers: &[u32], accounts: &mut Vec<Account>) {
+    accounts.clear();
+    accounts.extend(numbers.chunks_exact(ACCOUNT).map(|numbers| {
+        let (cell, months) = numbers.split_at(4);
+        Account {
+            code: cell[0],
+            region: cell[1],
+            method: cell[2],
+            count: cell[3],
+            months: months.try_into().expect("twelve places"),
+            rebate: 0,
+        }
+    }));
+}
+
 fn accepted(answer: Result<(), Refusal>, out: &mut Vec<u8>) {
     match answer {
         Ok(()) => out.extend_from_slice(b"ok\n"),
@@ -321,6 +356,25 @@ fn cells_or_breach(answer: Result<u32, NotOpened>, out: &mut Vec<u8>) {
             out.push(b'\n');
         }
     }
+}
+
+/// The total and each rebate, or the place of the account that is refused.
+fn rebates(answer: Result<u64, NotRun>, accounts: &[Account], out: &mut Vec<u8>) {
+    match answer {
+        Ok(total) => {
+            out.extend_from_slice(b"ok");
+            write_number(total, out);
+            for account in accounts {
+                write_number(account.rebate, out);
+            }
+        }
+        Err(refusal) => {
+            out.extend_from_slice(b"refused");
+            write_number(u64::from(refusal.number()), out);
+            write_number(refusal.place() as u64, out);
+        }
+    }
+    out.push(b'\n');
 }
 
 fn refused(refusal: Refusal, out: &mut Vec<u8>) {

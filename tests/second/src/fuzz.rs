@@ -8,10 +8,10 @@
 
 use std::fs::File;
 
-use crate::desk::{Desk, LINE_LIMIT};
+use crate::desk::{Desk, ACCOUNT, LINE_LIMIT};
 use crate::program::Program;
 use crate::random::Random;
-use crate::script::script;
+use crate::script::{reference_fields, script};
 use crate::tally::Tally;
 
 /// Where buffers end, besides the longest line.
@@ -21,7 +21,7 @@ const BUFFER: usize = 65_536;
 const OFF: [i64; 7] = [-3, -2, -1, 0, 1, 2, 3];
 
 /// What a line next to the longest can be made of.
-const LONG_LINES: [&str; 8] = [
+const LONG_LINES: [&str; 9] = [
     "a comment",
     "blank",
     "a call, then spaces",
@@ -30,7 +30,11 @@ const LONG_LINES: [&str; 8] = [
     "a call with zeros",
     "many numbers",
     "any bytes",
+    "a rebate run",
 ];
+
+/// The months of the period, and so of an account, in long rebate runs.
+const RUN_MONTHS: u32 = 9;
 
 /// Makes inputs from a seed.
 pub struct Fuzz {
@@ -94,6 +98,8 @@ impl Fuzz {
         let undo = some_line(|line| line == b"undo");
         let ask = some_line(|line| line.starts_with(b"ask "));
         let confirm = some_line(|line| line.starts_with(b"confirm "));
+        let direct = some_line(|line| line.starts_with(b"direct "));
+        let rebate = some_line(|line| line.starts_with(b"rebate "));
         let desk = some_line(|line| line.starts_with(b"desk "));
 
         let ways = ["from a file", "in one write", "in pieces"];
@@ -143,6 +149,12 @@ impl Fuzz {
         }
         if confirm {
             tally.one("fuzz: inputs with a confirm");
+        }
+        if direct {
+            tally.one("fuzz: inputs with a direct");
+        }
+        if rebate {
+            tally.one("fuzz: inputs with a rebate");
         }
         if desk {
             tally.one("fuzz: inputs with a desk");
@@ -266,8 +278,12 @@ impl Case<'_> {
     }
 
     fn line_of(&mut self, kind: usize, length: usize) -> Vec<u8> {
-        let calls: [&[u8]; 14] = [
+        let calls: [&[u8]; 18] = [
             b"desk 3 open 33",
+            b"desk 0 rebate 1 0 1 3 0 0 0 0 0 0 0 0 0 0 0 0",
+            b"rebate 1 0 1 3 0 0 0 0 0 0 0 0 0 0 0 0",
+            b"rebate 1 0",
+            b"direct 33",
             b"desk 0 undo",
             b"desk 16383 benchmark 13 1 1 1",
             b"desk 4294967295 confirm x",
@@ -301,7 +317,9 @@ impl Case<'_> {
                 line.extend_from_slice(numbers);
             }
             6 => {
-                let calls: [&[u8]; 9] = [
+                let calls: [&[u8]; 11] = [
+                    b"rebate",
+                    b"desk 3 rebate",
                     b"set",
                     b"put",
                     b"quote",
@@ -319,7 +337,7 @@ impl Case<'_> {
                     line.extend_from_slice(number.to_string().as_bytes());
                 }
             }
-            _ => {
+            7 => {
                 while line.len() < length {
                     line.push(match self.random.bits() as u8 {
                         b'\n' => b'#',
@@ -327,13 +345,54 @@ impl Case<'_> {
                     });
                 }
             }
+            _ => self.run_of(length, &mut line),
         }
         line.resize(length, b' ');
         line
     }
 
+    /// As many accounts as a line of this length holds, of one digit a number, and now and then one
+    /// that is too much, or a number.
+    fn run_of(&mut self, length: usize, line: &mut Vec<u8>) {
+        let desk: &[u8] = self.random.pick(&[b"", b"", b"desk 16383 ", b"desk 1 "]);
+        line.extend_from_slice(desk);
+        line.extend_from_slice(b"rebate");
+        let account = |random: &mut Random| {
+            let mut numbers = [0; ACCOUNT];
+            numbers[..4].copy_from_slice(&[1, 0, 1, RUN_MONTHS]);
+            for kwh in &mut numbers[4..] {
+                *kwh = random.between(0, 9);
+            }
+            numbers
+        };
+        let mut accounts = 0;
+        while line.len() + 2 * ACCOUNT <= length {
+            for number in account(&mut self.random) {
+                line.extend_from_slice(format!(" {number}").as_bytes());
+            }
+            accounts += 1;
+        }
+        // Zeros before the first number take up the rest, or spaces, or one number more.
+        let rest = length - line.len();
+        match self.random.below(3) {
+            0 => {}
+            1 => {
+                let first = desk.len() + b"rebate ".len();
+                line.splice(first..first, vec![b'0'; rest]);
+            }
+            _ if rest > 1 => line.extend_from_slice(b" 1"),
+            _ => {}
+        }
+        if accounts == 511 {
+            self.tally.one("fuzz: rebate runs of 511 accounts");
+        }
+    }
+
     /// Lines next to the longest, with calls between them.
     fn long_lines(&mut self) -> &'static str {
+        if self.random.one_in(2) {
+            self.book_for_a_run();
+        }
         for _ in 0..1 + self.random.index(5) {
             self.some_lines(10);
             let line = self.long_line();
@@ -347,6 +406,21 @@ impl Case<'_> {
             self.some_lines(10);
         }
         "inputs with long lines"
+    }
+
+    /// A book in which the long rebate runs are accepted, with rebates of up to nine digits.
+    fn book_for_a_run(&mut self) {
+        let mut set = format!("set 2023 10 {RUN_MONTHS}");
+        for number in reference_fields() {
+            set.push_str(&format!(" {number}"));
+        }
+        self.put_line(set.as_bytes());
+        let standing = self.random.pick(&[20_000, 23_960, 1_000_000]);
+        let zeros = " 0".repeat(14);
+        let put = format!("put 1 1 2 {standing} 1 3 20000 15000 0 0 1 0 0 0{zeros}");
+        self.put_line(put.as_bytes());
+        self.put_line(b"direct 1");
+        self.put_line(b"open 1");
     }
 
     /// An offset of interest after this length.

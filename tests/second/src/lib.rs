@@ -4,7 +4,8 @@
 //! The book holds a cost sheet with its period, or none, and 32 places for tariffs.
 //! A tariff is open only while it stays within the Relevant Maximum Charge in every
 //! cell (offered region with offered payment method) and for every division of
-//! consumption between the months. Each call is made by a desk with its own regions; the calls
+//! consumption between the months, or while it is under a direction and households are repaid
+//! what they were charged above it. Each call is made by a desk with its own regions; the calls
 //! of a desk with all fourteen have names of their own.
 
 pub mod bars;
@@ -24,7 +25,9 @@ pub mod side_by_side;
 pub mod tally;
 mod tariff;
 
-pub use book::{Book, Maximum, NotOpened, Quote, Refusal, State, PLACES};
+pub use book::{
+    Account, Book, Maximum, NotOpened, NotRun, Quote, Refusal, State, PLACES, RUN_LIMIT,
+};
 pub use calendar::period_days;
 pub use regions::DeskRegions;
 pub use sheet::{

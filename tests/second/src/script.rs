@@ -5,11 +5,13 @@
 //! side, worst months that tie, sheets at the edge of each refusal.
 
 mod desks;
+mod directions;
 mod edges;
 mod lists;
 mod marks;
 mod noise;
 mod orders;
+mod rebates;
 mod regions;
 mod savings;
 mod sheets;
@@ -25,7 +27,7 @@ pub(crate) use savings::SMNCC_EDGES;
 pub(crate) use splits::{is_share_edge, DRAFTED};
 pub use two_books::{two_books, Line, Said, TwoBooks};
 
-use crate::book::{Book, State};
+use crate::book::{Account, Book, State};
 use crate::desk::LINE_LIMIT;
 use crate::random::Random;
 use crate::regions::DeskRegions;
@@ -103,10 +105,13 @@ enum Turn {
     Confirm,
     Marks,
     Desks,
+    Direct,
+    Directions,
+    Rebate,
 }
 
 /// Turns of a random script, by weight.
-const TURNS: [(Turn, u64); 21] = [
+const TURNS: [(Turn, u64); 24] = [
     (Turn::Set, 34),
     (Turn::Trial, 24),
     (Turn::Put, 170),
@@ -128,6 +133,9 @@ const TURNS: [(Turn, u64); 21] = [
     (Turn::Confirm, 30),
     (Turn::Marks, 16),
     (Turn::Desks, 30),
+    (Turn::Direct, 14),
+    (Turn::Directions, 12),
+    (Turn::Rebate, 36),
 ];
 
 /// Turns of a speed script: one in a hundred is a sheet.
@@ -519,6 +527,11 @@ impl Writer {
         let _ = self.book.confirm_by(desk, code);
     }
 
+    fn direct(&mut self, code: u32) {
+        let desk = self.call_by_desk("direct", &[code]);
+        let _ = self.book.direct_by(desk, code);
+    }
+
     fn close(&mut self, code: u32) {
         let desk = self.call_by_desk("close", &[code]);
         let _ = self.book.close_by(desk, code);
@@ -535,6 +548,10 @@ impl Writer {
         let mut numbers = vec![code, region, method];
         numbers.extend_from_slice(months);
         self.call("quote", &numbers);
+    }
+
+    fn rebate(&mut self, accounts: &[Account]) {
+        self.call("rebate", &rebates::numbers_of(accounts));
     }
 
     // Turns.
@@ -584,6 +601,12 @@ impl Writer {
             Turn::Undos => self.undos(),
             Turn::Marks => self.marks(),
             Turn::Desks => self.desks(),
+            Turn::Direct => {
+                let code = self.code_in(State::Draft, 4);
+                self.direct(code);
+            }
+            Turn::Directions => self.directions(),
+            Turn::Rebate => self.any_rebate(),
             Turn::Benchmark | Turn::Maximum | Turn::Quote => {
                 if self.random.one_in(4) {
                     self.take_odd(turn);
@@ -713,6 +736,9 @@ impl Writer {
     }
 
     fn any_set(&mut self) {
+        if self.random.one_in(2) {
+            self.fewer_directions();
+        }
         let mut dated = self.good_sheet();
         if self.random.one_in(4) {
             self.spoil(&mut dated);

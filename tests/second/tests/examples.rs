@@ -27,7 +27,7 @@ fn scripts() -> Vec<PathBuf> {
 #[test]
 fn each_script_answers_as_stored() {
     let scripts = scripts();
-    for name in ["reference.txt", "errors.txt"] {
+    for name in ["reference.txt", "directions.txt", "errors.txt"] {
         assert!(scripts.iter().any(|path| path.ends_with(name)), "{name}");
     }
     for path in scripts {

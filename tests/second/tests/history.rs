@@ -1,8 +1,11 @@
-//! Demand 3 with UNDO, ASK and CONFIRM among the calls (M-105, M-106). A slow reading of a whole
-//! list of calls stands beside the book: sheet, tariffs, open codes and marks are read from the calls
-//! alone, as if an accepted UNDO and the SET that it takes back were not there, and so is whether
-//! there is something to take back. An accepted CONFIRM counts as an accepted OPEN. What a sheet, a
-//! tariff or the two together are worth is asked of fresh books.
+//! Demand 3 with UNDO, ASK, CONFIRM and DIRECT among the calls (M-105, M-106, M-108). A slow reading of
+//! a whole list of calls stands beside the book: sheet, tariffs, open codes, marks and directions are
+//! read from the calls alone, as if an accepted UNDO and the SET that it takes back were not there, and
+//! so is whether there is something to take back. An accepted CONFIRM counts as an accepted OPEN. What a
+//! sheet, a tariff or the two together are worth is asked of fresh books.
+//!
+//! An open tariff without a direction falls by a SET exactly when it exceeds; one with a direction falls
+//! by none. The direction asked for is the one at the time of the SET.
 //!
 //! With desks among the calls (M-107) the answer is that to the desk with all fourteen regions, or 17
 //! where that comes before it.
@@ -11,7 +14,7 @@ mod common;
 
 use common::{reference, tariff, ALL};
 use second::random::Random;
-use second::{Book, DeskRegions, NotOpened, Refusal, State, Tariff};
+use second::{Account, Book, DeskRegions, NotOpened, Refusal, State, Tariff};
 
 /// Calls; sheets and tariffs are those of `Stock`, by their numbers there.
 #[derive(Clone, Copy, Debug, PartialEq)]
@@ -24,10 +27,13 @@ enum Call {
     Confirm(u32),
     Close(u32),
     Drop(u32),
+    Direct(u32),
     Undo,
     Benchmark,
     Maximum,
     Quote(u32),
+    /// A run over one account of the code.
+    Rebate(u32),
 }
 
 /// 0 or the number of the refusal, and the values that come with it.
@@ -142,6 +148,7 @@ impl Stock {
             Call::Confirm(code) => values(book.confirm_by(desk, code), |cells| vec![cells.into()]),
             Call::Close(code) => values(book.close_by(desk, code), |()| Vec::new()),
             Call::Drop(code) => values(book.drop_code_by(desk, code), |()| Vec::new()),
+            Call::Direct(code) => values(book.direct_by(desk, code), |()| Vec::new()),
             Call::Undo => values(book.undo_by(desk), |()| Vec::new()),
             Call::Benchmark => {
                 let benchmark = book.benchmark_by(desk, 0, 0, 1, 0);
@@ -153,6 +160,20 @@ impl Stock {
             Call::Quote(code) => values(book.quote_by(desk, code, 0, 1, &[100; 3]), |quote| {
                 vec![quote.charge, quote.maximum]
             }),
+            Call::Rebate(code) => {
+                let mut accounts = [Account {
+                    code,
+                    region: 0,
+                    method: 1,
+                    count: 3,
+                    months: [100; 12],
+                    rebate: 0,
+                }];
+                match book.rebate_by(desk, &mut accounts) {
+                    Ok(total) => (0, vec![total, accounts[0].rebate]),
+                    Err(refusal) => (refusal.number(), vec![refusal.place() as u64]),
+                }
+            }
         }
     }
 
@@ -179,7 +200,7 @@ impl Stock {
 // What is read from the calls.
 
 /// The place in the list of the SET that UNDO would take back after these calls: no PUT, OPEN, ASK,
-/// CONFIRM, CLOSE or DROP has been accepted since, and no UNDO.
+/// CONFIRM, CLOSE, DROP or DIRECT has been accepted since, and no UNDO.
 fn to_take_back(made: &[Made]) -> Option<usize> {
     let last = made.iter().rposition(|made| {
         made.accepted
@@ -192,6 +213,7 @@ fn to_take_back(made: &[Made]) -> Option<usize> {
                     | Call::Confirm(_)
                     | Call::Close(_)
                     | Call::Drop(_)
+                    | Call::Direct(_)
                     | Call::Undo
             )
     })?;
@@ -238,16 +260,31 @@ fn tariff_of(made: &[Made], code: u32) -> Option<usize> {
     }
 }
 
+/// A code is under a direction when a DIRECT of it was accepted and, since the last such, no PUT or DROP
+/// of it.
+fn directed_by(calls: &[Call], code: u32) -> bool {
+    let given = calls.iter().rposition(|&call| call == Call::Direct(code));
+    given.is_some_and(|given| {
+        let mut since = calls[given..].iter();
+        !since.any(|call| matches!(call, Call::Put(of, _) | Call::Drop(of) if *of == code))
+    })
+}
+
+fn is_directed(made: &[Made], code: u32) -> bool {
+    directed_by(&accepted(made), code)
+}
+
 /// A code is open when an OPEN or CONFIRM of it was accepted and, since the last such, no CLOSE, PUT or
-/// DROP of it and no SET with whose sheet its tariff exceeds.
+/// DROP of it and no SET with whose sheet its tariff exceeds, unless it was under a direction by then.
 fn is_open(stock: &Stock, made: &[Made], code: u32) -> bool {
     let calls = accepted(made);
     let opens = |call: &Call| [Call::Open(code), Call::Confirm(code)].contains(call);
     let Some(opened) = calls.iter().rposition(opens) else {
         return false;
     };
-    calls[opened..].iter().all(|&call| match call {
+    (opened..calls.len()).all(|place| match calls[place] {
         Call::Close(of) | Call::Put(of, _) | Call::Drop(of) => of != code,
+        Call::Set(_) if directed_by(&calls[..place], code) => true,
         // With no tariff, or another one by now, it is not open whatever the sheet was.
         Call::Set(number) => {
             let tariff = tariff_of(made, code);
@@ -299,7 +336,8 @@ fn answer(stock: &Stock, made: &[Made], call: Call) -> Answer {
                 return (refusal, Vec::new());
             }
             let falls = |code: &u32| {
-                let tariff = tariff_of(made, *code).filter(|_| is_open(stock, made, *code));
+                let may = is_open(stock, made, *code) && !is_directed(made, *code);
+                let tariff = tariff_of(made, *code).filter(|_| may);
                 tariff.is_some_and(|tariff| stock.exceeds(number, tariff))
             };
             let set: u64 = (1..=32).filter(falls).map(|code| 1 << (code - 1)).sum();
@@ -310,11 +348,18 @@ fn answer(stock: &Stock, made: &[Made], call: Call) -> Answer {
         | Call::Ask(code)
         | Call::Confirm(code)
         | Call::Drop(code)
+        | Call::Direct(code)
             if is_open(stock, made, code) =>
         {
             (7, Vec::new())
         }
         Call::Close(code) if is_open(stock, made, code) => (0, Vec::new()),
+        // A direction is about 11 and the cells alone.
+        Call::Open(code) | Call::Ask(code) if is_directed(made, code) => match sheet {
+            Some(_) => (0, vec![0]),
+            None => (10, Vec::new()),
+        },
+        Call::Confirm(code) if is_marked(made, code) && is_directed(made, code) => (0, vec![0]),
         // The cells are those that OPEN would answer.
         Call::Confirm(code) if is_marked(made, code) => {
             let at = tariff_of(made, code).map(|tariff| (code, tariff));
@@ -328,9 +373,33 @@ fn answer(stock: &Stock, made: &[Made], call: Call) -> Answer {
         | Call::Confirm(code)
         | Call::Close(code)
         | Call::Drop(code)
+        | Call::Direct(code)
         | Call::Quote(code) => as_fresh(Some(code)),
+        Call::Rebate(code) => {
+            let quote = answer(stock, made, Call::Quote(code));
+            rebate(stock, made, code, quote)
+        }
         Call::Set(_) | Call::Benchmark | Call::Maximum => as_fresh(None),
     }
+}
+
+/// The answer to a run over one account, whose quote is this.
+fn rebate(stock: &Stock, made: &[Made], code: u32, quote: Answer) -> Answer {
+    let (0, [charge, maximum]) = (quote.0, &quote.1[..]) else {
+        return (19, vec![0]);
+    };
+    if !is_open(stock, made, code) || !is_directed(made, code) {
+        return (18, vec![0]);
+    }
+    let tariff = tariff_of(made, code).expect("an open tariff");
+    let kind = stock.tariffs[tariff][0];
+    // The sheets have the m of the reference sheet.
+    let scale = 12_000 * if kind == 1 { 3_000 } else { 4_000 };
+    let mut rebate = charge.saturating_sub(*maximum) / scale;
+    if rebate * scale + maximum < *charge {
+        rebate += 1;
+    }
+    (0, vec![rebate, rebate])
 }
 
 /// Whether a call is outside a desk, by the tariffs that are read from the calls.
@@ -342,7 +411,9 @@ fn is_outside(stock: &Stock, made: &[Made], desk: u32, call: Call) -> bool {
     };
     let old = |code: u32| not_in(0) || tariff_of(made, code).is_some_and(of);
     match call {
-        Call::Set(_) | Call::Trial(_) | Call::Undo => desk != ALL,
+        Call::Set(_) | Call::Trial(_) | Call::Undo | Call::Direct(_) => desk != ALL,
+        // It is its quotes that are.
+        Call::Rebate(_) => false,
         Call::Put(code, new) => old(code) || of(new),
         Call::Benchmark => not_in(1),
         Call::Maximum => not_in(1 << 13),
@@ -358,9 +429,13 @@ fn is_outside(stock: &Stock, made: &[Made], desk: u32, call: Call) -> bool {
 /// The answer to a desk: that to the one with all fourteen if it is one of the refusals that come
 /// before 17, or if the call is not outside the desk.
 fn answer_to(stock: &Stock, made: &[Made], desk: u32, call: Call) -> Answer {
+    if let Call::Rebate(code) = call {
+        let quote = answer_to(stock, made, desk, Call::Quote(code));
+        return rebate(stock, made, code, quote);
+    }
     let to_all = answer(stock, made, call);
     let before_17: &[u32] = match call {
-        Call::Set(_) | Call::Trial(_) | Call::Undo => &[],
+        Call::Set(_) | Call::Trial(_) | Call::Undo | Call::Direct(_) => &[],
         Call::Put(..) => &[6, 7, 8],
         Call::Benchmark | Call::Maximum => &[13],
         Call::Quote(_) => &[6, 9, 10, 13],
@@ -387,6 +462,13 @@ fn assert_places(stock: &Stock, made: &[Made], book: &Book, codes: &[u32]) {
         assert_eq!(
             book.is_marked(code),
             marked,
+            "code {code} after {:?}",
+            list()
+        );
+        let directed = is_directed(made, code);
+        assert_eq!(
+            book.is_directed(code),
+            directed,
             "code {code} after {:?}",
             list()
         );
@@ -418,7 +500,7 @@ fn random_call(random: &mut Random, stock: &Stock) -> Call {
     };
     let sheet = random.index(stock.sheets.len());
     let tariff = random.index(stock.tariffs.len());
-    match random.below(38) {
+    match random.below(43) {
         0..=6 => Call::Set(sheet),
         7 => Call::Trial(sheet),
         8..=10 => Call::Put(code, tariff),
@@ -430,6 +512,8 @@ fn random_call(random: &mut Random, stock: &Stock) -> Call {
         21 => Call::Quote(code),
         22..=27 => Call::Ask(code),
         28..=32 => Call::Confirm(code),
+        33..=35 => Call::Direct(code),
+        36..=37 => Call::Rebate(code),
         _ => Call::Undo,
     }
 }
@@ -443,19 +527,31 @@ const OPEN_AT_FIRST: [Call; 5] = [
     Call::Open(2),
 ];
 
+/// A sheet, and a tariff that is open under a direction, over the cap of every sheet.
+const DIRECTED_AT_FIRST: [Call; 4] = [
+    Call::Set(0),
+    Call::Put(1, 4),
+    Call::Direct(1),
+    Call::Open(1),
+];
+
 #[test]
 fn long_lists_read_from_the_calls_alone() {
     let stock = stock();
     let mut random = Random::new(105);
     let (mut taken_back, mut refused, mut came_back, mut firsts) = (0, 0, 0, 0);
     let (mut asked, mut confirmed, mut not_marked, mut marks_back) = (0, 0, 0, 0);
+    let (mut directed, mut stayed, mut rebates, mut later) = (0, 0, 0, 0);
     for _ in 0..12_000 {
         let mut made = Vec::new();
         let mut book = Book::new();
-        if random.one_in(2) {
-            for call in OPEN_AT_FIRST {
-                step(&stock, &mut made, &mut book, call);
-            }
+        let begin: &[Call] = match random.below(5) {
+            0..=1 => &OPEN_AT_FIRST,
+            2 => &DIRECTED_AT_FIRST,
+            _ => &[],
+        };
+        for &call in begin {
+            step(&stock, &mut made, &mut book, call);
         }
         for _ in 0..random.between(1, 40) {
             let open = |book: &Book| {
@@ -468,7 +564,26 @@ fn long_lists_read_from_the_calls_alone() {
             let before = open(&book);
             let call = random_call(&mut random, &stock);
             let answer = step(&stock, &mut made, &mut book, call);
+            let over = |sheet: usize, code: u32| {
+                let tariff = tariff_of(&made, code).expect("a used code");
+                stock.exceeds(sheet, tariff)
+            };
             match (call, answer.0) {
+                (Call::Set(sheet), 0) => {
+                    let open = |code: &u32| book.state(*code) == Some(State::Open);
+                    let mut codes = (1..=3).filter(open);
+                    stayed += usize::from(codes.any(|code| over(sheet, code)));
+                }
+                (Call::Direct(code), 0) => {
+                    directed += 1;
+                    let calls = accepted(&made);
+                    let mut since = calls.iter().rev().skip(1);
+                    let last = since.find(|call| !matches!(call, Call::Open(_) | Call::Ask(_)));
+                    if let Some(Call::Set(sheet)) = last {
+                        later += usize::from(over(*sheet, code));
+                    }
+                }
+                (Call::Rebate(_), 0) => rebates += usize::from(answer.1[0] > 0),
                 (Call::Undo, 0) => {
                     taken_back += 1;
                     came_back += open(&book) - before;
@@ -493,6 +608,11 @@ fn long_lists_read_from_the_calls_alone() {
     let met = [asked, confirmed, not_marked, marks_back];
     assert!(
         asked > 2_000 && confirmed > 300 && not_marked > 2_000 && marks_back > 100,
+        "{met:?}"
+    );
+    let met = [directed, stayed, rebates, later];
+    assert!(
+        directed > 3_000 && stayed > 300 && rebates > 100 && later > 300,
         "{met:?}"
     );
 }
@@ -572,6 +692,92 @@ fn all_short_lists_of_asks_and_confirms_read_from_the_calls_alone() {
         let calls = calls.map(|call| (ALL, call));
         let lists = all_lists(&stock, &mut made, &book, &calls, 5);
         assert_eq!(lists, 66_430);
+    }
+}
+
+#[test]
+fn all_short_lists_of_directions_read_from_the_calls_alone() {
+    let stock = stock();
+    let calls = [
+        Call::Set(0),
+        Call::Set(1),
+        Call::Put(1, 0),
+        Call::Open(1),
+        Call::Ask(1),
+        Call::Confirm(1),
+        Call::Close(1),
+        Call::Drop(1),
+        Call::Direct(1),
+        Call::Undo,
+    ];
+    // A draft over the cap of every sheet, one under a direction, asked for, and open; a tariff that
+    // fell, and one that was given a direction then.
+    let over = [
+        Call::Set(0),
+        Call::Put(1, 4),
+        Call::Direct(1),
+        Call::Ask(1),
+        Call::Confirm(1),
+        Call::Set(1),
+    ];
+    let fell = [
+        Call::Set(0),
+        Call::Put(1, 0),
+        Call::Open(1),
+        Call::Set(1),
+        Call::Direct(1),
+    ];
+    let begins = [
+        (5, &[][..]),
+        (4, &over[..2]),
+        (5, &over[..3]),
+        (4, &over[..4]),
+    ];
+    let more = [
+        (4, &over[..5]),
+        (4, &over[..]),
+        (4, &fell[..4]),
+        (4, &fell[..]),
+    ];
+    for (length, begin) in begins.into_iter().chain(more) {
+        let (mut made, mut book) = (Vec::new(), Book::new());
+        for &call in begin {
+            step(&stock, &mut made, &mut book, call);
+        }
+        let calls = calls.map(|call| (ALL, call));
+        let lists = all_lists(&stock, &mut made, &book, &calls, length);
+        assert_eq!(lists, [11_111, 111_111][length - 4]);
+    }
+}
+
+/// Reading F5, written out.
+#[test]
+fn a_direction_given_later_brings_back_nothing_that_fell() {
+    let stock = stock();
+    let list = [
+        (Call::Set(0), State::Empty),
+        (Call::Put(1, 0), State::Draft),
+        (Call::Open(1), State::Open),
+        // It falls.
+        (Call::Set(1), State::Draft),
+        (Call::Direct(1), State::Draft),
+        (Call::Set(0), State::Draft),
+        (Call::Open(1), State::Open),
+        // And now it does not.
+        (Call::Set(1), State::Open),
+        (Call::Set(5), State::Open),
+        (Call::Undo, State::Open),
+        (Call::Close(1), State::Draft),
+        (Call::Put(1, 0), State::Draft),
+        (Call::Set(0), State::Draft),
+        (Call::Open(1), State::Open),
+        (Call::Set(1), State::Draft),
+    ];
+    let (mut made, mut book) = (Vec::new(), Book::new());
+    for (call, after) in list {
+        assert_eq!(step(&stock, &mut made, &mut book, call).0, 0, "{call:?}");
+        assert_eq!(state(&stock, &made, 1), after, "{call:?}");
+        assert_places(&stock, &made, &book, &[1]);
     }
 }
 
@@ -668,7 +874,8 @@ fn all_short_lists_with_desks_read_from_the_calls_alone() {
         (ALL, Call::Set(0)),
         (ALL, Call::Set(3)),
         (ALL, Call::Undo),
-        (0, Call::Undo),
+        (ALL, Call::Direct(1)),
+        (8_193, Call::Direct(1)),
     ]);
     let begins: [&[Call]; 4] = [
         &[],
@@ -682,6 +889,6 @@ fn all_short_lists_with_desks_read_from_the_calls_alone() {
             step(&stock, &mut made, &mut book, call);
         }
         let lists = all_lists(&stock, &mut made, &book, &calls, 4);
-        assert_eq!(lists, 1 + 19 + 361 + 6_859 + 130_321);
+        assert_eq!(lists, 1 + 20 + 400 + 8_000 + 160_000);
     }
 }

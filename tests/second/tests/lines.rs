@@ -160,6 +160,93 @@ fn answers_of_ask_and_confirm() {
     );
 }
 
+/// The numbers of an account of region 0, method 1, with three months.
+fn account(code: u32, months: [u32; 3], past: u32) -> String {
+    let months = months.map(|kwh| kwh.to_string()).join(" ");
+    format!(" {code} 0 1 3 {months}{}", format!(" {past}").repeat(9))
+}
+
+/// The starred tariff of document 01 under a direction, and what its households are owed.
+#[test]
+fn answers_of_direct_and_rebate() {
+    let tiered = format!("1 2 20000 16383 3 20000 15000 0 0 100{}", " 0".repeat(17));
+    let owed = account(1, [100, 100, 100], 4_294_967_295);
+    let not_owed = account(1, [300, 0, 0], 0);
+    let draft = account(2, [0, 0, 0], 0);
+    let empty = account(3, [0, 0, 0], 0);
+    let mut input = "direct 1\ndirect 33\ndesk 1 direct 33\nrebate\n".to_string();
+    input.push_str(&format!("put 1 {tiered}\nput 2 {tiered}\nrebate{owed}\n"));
+    input.push_str("direct 1\nopen 1\n");
+    input.push_str(&reference_line());
+    input.push_str("open 1\n   direct   002 \r\nask 2\ndirect 1\n");
+    for list in [
+        vec![&owed],
+        vec![&not_owed],
+        vec![&owed, &not_owed, &owed],
+        vec![&owed, &draft],
+        vec![&draft, &owed, &empty],
+        vec![&empty, &draft],
+    ] {
+        let accounts: String = list.into_iter().map(String::as_str).collect();
+        input.push_str(&format!("rebate{accounts}\n"));
+    }
+    input.push_str(&format!("desk 1 rebate{owed}\ndesk 16383 rebate{owed}\r\n"));
+    input.push_str(&format!(
+        "desk 0 rebate\nrebate{owed} 1\nrebate{}\n",
+        &owed[2..]
+    ));
+    input.push_str("undo\nconfirm 2\nrebate x\ndirect\ndirect 1 2\nrebate");
+    assert_eq!(
+        run(input.as_bytes()),
+        "refused 9\nrefused 6\nrefused 17\nok 0\n\
+         ok\nok\nrefused 19 0\n\
+         ok\nrefused 10\n\
+         ok\n\
+         ok 0\nok\nok 0\nrefused 7\n\
+         ok 70425 70425\n\
+         ok 0 0\n\
+         ok 140850 70425 0 70425\n\
+         refused 18 1\n\
+         refused 19 2\n\
+         refused 19 0\n\
+         refused 19 0\nok 70425 70425\n\
+         ok 0\n\
+         error line 24: rebate takes 16 numbers an account\n\
+         error line 25: rebate takes 16 numbers an account\n\
+         refused 15\nok 0\n\
+         error line 28: word 2 is not a number from 0 to 4294967295\n\
+         error line 29: direct takes 1 number\n\
+         error line 30: direct takes 1 number\n\
+         ok 0\n"
+    );
+}
+
+/// As many accounts as a line can have.
+#[test]
+fn the_longest_rebate_run() {
+    let mut input = reference_line();
+    input.push_str(&format!(
+        "put 1 1 2 20000 16383 3 20000 15000 0 0 100{}\ndirect 1\nopen 1\n",
+        " 0".repeat(17)
+    ));
+    let accounts = account(1, [0, 0, 9], 9).repeat(511);
+    let line = format!("rebate{accounts}");
+    assert_eq!(line.len(), 16_358);
+    let longest = format!("rebate{}{accounts}", " ".repeat(16_384 - line.len()));
+    let longer = format!("rebate{accounts}{}", account(1, [0, 0, 9], 9));
+    for call in [&line, &longest, &longer] {
+        input.push_str(call);
+        input.push('\n');
+    }
+    let answers = run(input.as_bytes());
+    let answers: Vec<&str> = answers.lines().collect();
+    let none = format!("ok 0{}", " 0".repeat(511));
+    assert_eq!(answers[..4], ["ok", "ok", "ok", "ok 0"]);
+    assert_eq!(answers[4], none);
+    assert_eq!(answers[5], none);
+    assert_eq!(answers[6], "error line 7: longer than 16384 bytes");
+}
+
 /// A tariff of regions 0 and 1 and one of region 1, and desks that have them or not.
 #[test]
 fn answers_of_desks() {
@@ -359,10 +446,11 @@ fn desk_16383_changes_no_answer() {
             one.line(line, &mut answer);
             let mut named = line.to_vec();
             let is_call = answer.starts_with(b"ok") || answer.starts_with(b"refused");
+            calls += usize::from(is_call);
             // Some lines are as long as a line can be.
-            if is_call && line.len() < 16_000 {
-                named = [b"desk 16383 ", line].concat();
-                calls += 1;
+            let prefix = b"desk 16383 ";
+            if is_call && prefix.len() + line.len() <= 16_384 {
+                named = [prefix, line].concat();
             }
             let mut of_desk = Vec::new();
             other.line(&named, &mut of_desk);
@@ -429,6 +517,30 @@ fn lines_that_are_no_calls() {
         ("confirms 1", "unknown call"),
         ("confir 1", "unknown call"),
         ("confirm1", "unknown call"),
+        ("direct", "direct takes 1 number"),
+        ("direct 1 2", "direct takes 1 number"),
+        ("direct x", "word 2 is not a number from 0 to 4294967295"),
+        ("DIRECT 1", "unknown call"),
+        ("directs 1", "unknown call"),
+        ("direc 1", "unknown call"),
+        ("direct1", "unknown call"),
+        ("rebate 1", "rebate takes 16 numbers an account"),
+        (
+            "rebate 1 0 1 3 0 0 0 0 0 0 0 0 0 0 0",
+            "rebate takes 16 numbers an account",
+        ),
+        (
+            "rebate 1 0 1 3 0 0 0 0 0 0 0 0 0 0 0 0 0",
+            "rebate takes 16 numbers an account",
+        ),
+        ("rebate x", "word 2 is not a number from 0 to 4294967295"),
+        (
+            "rebate 1 0 1 3 0 -1 0 0 0 0 0 0 0 0 0 0",
+            "word 7 is not a number from 0 to 4294967295",
+        ),
+        ("REBATE", "unknown call"),
+        ("rebates", "unknown call"),
+        ("rebate#", "unknown call"),
         ("close", "close takes 1 number"),
         ("drop 1 2 3", "drop takes 1 number"),
         ("set", "set takes at least 3 numbers"),

@@ -498,7 +498,7 @@ fn what_is_open_is_within_the_cap() {
 #[test]
 fn undo_restores_the_book_of_a_random_script() {
     let mut with_marks = 0;
-    each_book(31..37, |book| {
+    each_book(31..39, |book| {
         let mut changed = book.clone();
         set(&mut changed);
         changed.undo().unwrap();

@@ -337,27 +337,28 @@ fn random_calls_find_what_is_wrong_with_an_undo() {
 fn random_calls_find_a_chance_to_undo_that_lasts_too_long_or_not_long_enough() {
     let taken = "expected: refused 15\n  answered: ok";
     let refused = "expected: ok\n  answered: refused 15";
-    for call in ["put", "open", "ask", "close", "drop"] {
+    for call in ["put", "open", "ask", "close", "drop", "direct"] {
         let fault = format!("undo: the chance survives an accepted {call}");
         all_found(&[(&fault, taken)], first_seed_answered);
     }
     // There is none when a CONFIRM is accepted: SET clears the marks, and ASK ends the chance.
     first_seed(&wrong("undo: the chance survives an accepted confirm")).unwrap();
     for call in [
-        "put", "open", "ask", "confirm", "close", "drop", "set", "trial", "quote",
+        "put", "open", "ask", "confirm", "close", "drop", "set", "trial", "quote", "direct",
+        "rebate",
     ] {
         let fault = format!("undo: the chance ends by a refused {call}");
         all_found(&[(&fault, refused)], first_seed_answered);
         let fault = format!("undo: a refused {call} makes a chance");
         all_found(&[(&fault, taken)], first_seed_answered);
     }
-    for call in ["trial", "benchmark", "maximum", "quote"] {
+    for call in ["trial", "benchmark", "maximum", "quote", "rebate"] {
         let fault = format!("undo: the chance ends by an accepted {call}");
         all_found(&[(&fault, refused)], first_seed_answered);
         let fault = format!("undo: an accepted {call} makes a chance");
         all_found(&[(&fault, taken)], first_seed_answered);
     }
-    for call in ["ask", "confirm"] {
+    for call in ["ask", "confirm", "direct"] {
         let fault = format!("undo: an accepted {call} makes a chance");
         all_found(&[(&fault, taken)], first_seed_answered);
     }
@@ -515,8 +516,166 @@ fn short_lists_find_what_is_wrong_with_ask_and_confirm() {
     );
 }
 
+const TO_0_CELLS: &str = "answered: ok 0";
+const OF_0_CELLS: &str = "expected: ok 0";
+
+/// What is wrong with directions, and what the answers say. Short lists find these too.
+const OF_DIRECTIONS: [(&str, &str); 27] = [
+    ("set makes drafts of them", "expected: "),
+    ("it survives put", TO_0_CELLS),
+    ("it survives drop", TO_0_CELLS),
+    ("confirm without 16", TO_0_CELLS),
+    ("28 cells", "expected: ok 0\n  answered: ok 28"),
+    ("no cells", OF_0_CELLS),
+    ("open answers cells", OF_0_CELLS),
+    ("ask answers cells", OF_0_CELLS),
+    ("confirm answers cells", OF_0_CELLS),
+    ("cells within the cap", OF_0_CELLS),
+    ("confirm answers what ask did", OF_0_CELLS),
+    ("11 all the same", "expected: ok 0\n  answered: refused 11 "),
+    ("close ends it", OF_0_CELLS),
+    ("set ends them", "expected: ok 0"),
+    ("undo ends them", "expected: ok 0"),
+    ("open ends it", "expected: "),
+    ("ask ends it", OF_0_CELLS),
+    ("confirm ends it", "expected: "),
+    ("it clears the mark", "answered: refused 16"),
+    ("it marks the draft", "expected: refused 16"),
+    (
+        "the chance survives it",
+        "expected: refused 15\n  answered: ok",
+    ),
+    (
+        "a refused one ends the chance",
+        "expected: ok\n  answered: refused 15",
+    ),
+    ("what fell is open again", "expected: "),
+    ("not given twice", "expected: ok\n  answered: refused 7"),
+    (
+        "not to a marked draft",
+        "expected: ok\n  answered: refused 7",
+    ),
+    ("no 7", "expected: refused 7\n  answered: ok"),
+    ("no 9", "expected: refused 9\n  answered: ok"),
+];
+
+#[test]
+fn random_calls_find_what_is_wrong_with_directions() {
+    for (fault, says) in OF_DIRECTIONS {
+        let fault = format!("directions: {fault}");
+        all_found(&[(&fault, says)], first_seed_answered);
+    }
+    for (fault, says) in [
+        ("a desk of one region may give one", "expected: refused 17"),
+        ("every desk may give one", "expected: refused 17"),
+        (
+            "a desk that may use the code may give one",
+            "expected: refused 17",
+        ),
+        ("open without 10", TO_0_CELLS),
+        ("ask without 10", TO_0_CELLS),
+        ("10 without a sheet", "answered: refused 10"),
+        ("no 6", "expected: refused 6\n  answered: ok"),
+        ("9 before 6", "expected: refused 6\n  answered: refused 9"),
+        ("not within the cap", "answered: refused 11"),
+        ("a trial tells them", " trial "),
+        ("close is refused", "answered: refused 12"),
+        ("quote is refused", "answered: refused 13"),
+        ("a refused put ends it", "expected: "),
+        ("a refused drop ends it", "expected: "),
+        ("a refused close ends it", "expected: "),
+        ("the next code has it", TO_0_CELLS),
+        ("code 32 never has it", "expected: "),
+    ] {
+        let fault = format!("directions: {fault}");
+        all_found(&[(&fault, says)], first_seed_answered);
+    }
+    first_seed(&wrong("directions: nothing is wrong")).unwrap();
+}
+
+#[test]
+fn short_lists_find_what_is_wrong_with_directions() {
+    for (fault, says) in OF_DIRECTIONS {
+        let fault = format!("directions: {fault}");
+        all_found(&[(&fault, says)], short_lists);
+    }
+    let fault = "directions: a desk that may use the code may give one";
+    all_found(&[(fault, "expected: refused 17")], short_lists_with_desks);
+}
+
+/// What is wrong with rebate runs, and what the answers say.
+const OF_REBATES: [(&str, &str); 42] = [
+    ("rounded down", "expected: ok"),
+    ("rounded to the nearest", "expected: ok"),
+    ("a mill more where nothing is to be rounded", "expected: ok"),
+    ("a mill at the cap", "expected: ok"),
+    ("below the cap it is owed too", "expected: ok"),
+    ("the maximum of the other method", "expected: ok"),
+    ("the maximum of region 0", "expected: ok"),
+    ("the charge alone", "expected: ok"),
+    ("rebates of 32 bits", "expected: ok"),
+    ("an account twice is owed once", "expected: ok"),
+    ("the total of the first account alone", "expected: ok"),
+    ("the total without the last account", "expected: ok"),
+    ("a total of 32 bits", "expected: ok"),
+    ("the total at the end", "expected: ok"),
+    ("no rebates", "expected: ok"),
+    ("a month past the count is tested", "answered: refused 19"),
+    ("a month past the count is read", "expected: ok"),
+    ("the last month is not read", "expected: ok"),
+    ("the count is not looked at", "expected: refused 19"),
+    ("a count of 13 and more is twelve", "expected: refused 19"),
+    ("a count in 8 bits", "expected: refused 19"),
+    ("a month of 10,001 is taken", "expected: refused 19"),
+    ("18 before 19", "answered: refused 18"),
+    (
+        "18 where it comes first in the list",
+        "answered: refused 18",
+    ),
+    ("19 where 18 is meant", "expected: refused 18"),
+    ("19 at the last refused place", "expected: refused 19"),
+    ("18 at the last refused place", "expected: refused 18"),
+    ("places from 1", "expected: refused 1"),
+    ("places in numbers", "expected: refused 1"),
+    ("no place", "expected: refused 1"),
+    ("the refusal of quote", "expected: refused 19"),
+    ("no 19 for 17", "expected: refused 19"),
+    ("17 to every part desk", "answered: refused 17"),
+    ("17 for the list of no account", "expected: ok 0"),
+    ("19 for the list of no account", "expected: ok 0"),
+    (
+        "a draft under a direction is enough",
+        "expected: refused 18",
+    ),
+    ("an open tariff is enough", "expected: refused 18"),
+    ("no 18", "expected: refused 18"),
+    ("the first account alone is tested", "expected: refused 18"),
+    ("at most 499 accounts", "answered: refused 19 499"),
+    ("at most 255 accounts", "answered: refused 19 255"),
+    ("the run ends the chance", "answered: refused 15"),
+];
+
+#[test]
+fn random_calls_find_what_is_wrong_with_rebates() {
+    for (fault, says) in OF_REBATES {
+        let fault = format!("rebates: {fault}");
+        all_found(&[(&fault, says)], first_seed_answered);
+    }
+    first_seed(&wrong("rebates: nothing is wrong")).unwrap();
+}
+
+/// A line holds 511.
+#[test]
+fn the_fuzz_finds_runs_that_are_too_short() {
+    for count in [510, 499] {
+        let fault = format!("rebates: at most {count} accounts");
+        let says = format!("answered: refused 19 {count}");
+        all_found(&[(&fault, &says)], fixed_fuzz);
+    }
+}
+
 /// The refusals of each call, in their order.
-const ORDERS: [(&str, &[u32]); 12] = [
+const ORDERS: [(&str, &[u32]); 13] = [
     ("set", &[17, 1, 2, 3, 4, 14, 5]),
     ("trial", &[17, 1, 2, 3, 4, 14, 5]),
     ("undo", &[17, 15]),
@@ -529,6 +688,7 @@ const ORDERS: [(&str, &[u32]); 12] = [
     ("benchmark", &[13, 17, 10]),
     ("maximum", &[13, 17, 10]),
     ("quote", &[6, 9, 10, 13, 17]),
+    ("direct", &[17, 6, 9, 7]),
 ];
 
 /// 17 before one of the refusals that come before it, or after one of those that come after it.

@@ -2,10 +2,10 @@
 //!
 //!     speed MEASUREMENT CALLS
 //!
-//! makes that many calls of one kind and prints the checksum of their answers; with a measurement above 7, of all eight in turn.
+//! makes that many calls of one kind and prints the checksum of their answers; with a measurement above 8, of all nine in turn.
 //! It also sees to it that the calls are what the measurement's name says, outside of what is timed.
 
-use second::{Book, NotOpened, Refusal, State, RECORD, REGIONAL};
+use second::{Account, Book, NotOpened, NotRun, Refusal, State, RECORD, REGIONAL};
 
 const SHEET: [u32; 96] = sheet();
 
@@ -95,6 +95,20 @@ impl Sum {
         }
     }
 
+    fn fold_run(&mut self, answer: Result<u64, NotRun>) {
+        match answer {
+            Ok(total) => self.fold(total),
+            Err(NotRun::NotQuoted(place)) => {
+                self.fold(19);
+                self.fold(place as u64);
+            }
+            Err(NotRun::NotDirected(place)) => {
+                self.fold(18);
+                self.fold(place as u64);
+            }
+        }
+    }
+
     fn fold_benchmark(&mut self, answer: Result<u32, Refusal>) {
         match answer {
             Ok(charge) => self.fold(charge.into()),
@@ -110,19 +124,19 @@ fn record(first: [u32; REGIONAL]) -> [u32; RECORD] {
     record
 }
 
-/// A tariff with four tiers, offered everywhere. With a standing charge of 10,000 it is within the cap in all 28 cells, and with
-/// 22,000 in all but the last.
-fn tiered(k: u32, standing: u32) -> [u32; RECORD] {
+/// A tariff with four tiers, offered everywhere, its rates more by some. With no more and a standing charge of 10,000 it is within
+/// the cap in all 28 cells, and with 22,000 in all but the last.
+fn tiered(k: u32, standing: u32, more: u32) -> [u32; RECORD] {
     record([
         1,
         4,
         standing + k,
         16_383,
         3,
-        18_600 + k,
-        18_000 + k,
-        18_500 + k,
-        17_000 + k,
+        18_600 + k + more,
+        18_000 + k + more,
+        18_500 + k + more,
+        17_000 + k + more,
         100 + k,
         500 + k,
         2_000 + k,
@@ -130,18 +144,18 @@ fn tiered(k: u32, standing: u32) -> [u32; RECORD] {
     ])
 }
 
-/// Tariffs of all three kinds, within the cap everywhere.
-fn mixed(k: u32) -> [u32; RECORD] {
+/// Tariffs of all three kinds, their rates more by some. With no more they are within the cap everywhere.
+fn mixed(k: u32, more: u32) -> [u32; RECORD] {
     match k % 4 {
-        0 => tiered(k, 10_000),
+        0 => tiered(k, 10_000, more),
         1 => record([
             1,
             2,
             10_000 + k,
             16_383,
             3,
-            18_600 + k,
-            18_000 + k,
+            18_600 + k + more,
+            18_000 + k + more,
             0,
             0,
             100 + k,
@@ -155,8 +169,8 @@ fn mixed(k: u32) -> [u32; RECORD] {
             10_000 + k,
             16_383,
             3,
-            17_000 + k,
-            12_000 + k,
+            17_000 + k + more,
+            12_000 + k + more,
             0,
             0,
             0,
@@ -170,9 +184,9 @@ fn mixed(k: u32) -> [u32; RECORD] {
             10_000 + k,
             16_383,
             3,
-            17_000 + k,
-            11_000 + k,
-            14_000 + k,
+            17_000 + k + more,
+            11_000 + k + more,
+            14_000 + k + more,
             0,
             500,
             300,
@@ -193,7 +207,7 @@ fn with_sheet() -> Book {
 fn with_drafts(standing: u32) -> Book {
     let mut book = with_sheet();
     for k in 0..32 {
-        let _ = book.put(k + 1, &tiered(k, standing));
+        let _ = book.put(k + 1, &tiered(k, standing, 0));
     }
     book
 }
@@ -202,8 +216,20 @@ fn with_drafts(standing: u32) -> Book {
 fn with_open() -> Book {
     let mut book = with_sheet();
     for k in 0..32 {
-        let _ = book.put(k + 1, &mixed(k));
+        let _ = book.put(k + 1, &mixed(k, 0));
         let _ = book.open(k + 1);
+    }
+    assert_eq!(open_in(&book), 32);
+    book
+}
+
+/// The same with each of them under a direction, half of them above the cap.
+fn with_directed() -> Book {
+    let mut book = with_sheet();
+    for k in 0..32 {
+        let _ = book.put(k + 1, &mixed(k, k / 4 % 2 * 2_000));
+        let _ = book.direct(k + 1);
+        assert_eq!(book.open(k + 1), Ok(0));
     }
     assert_eq!(open_in(&book), 32);
     book
@@ -351,6 +377,50 @@ fn trials(n: u64) -> u64 {
     sum.0
 }
 
+const ACCOUNTS: usize = 10_000;
+
+/// Accounts of the 32 tariffs, in any cell, with twelve months.
+fn drawn_accounts() -> Vec<Account> {
+    let mut months = [1_000; 12];
+    let mut x = Generator(1);
+    (0..ACCOUNTS)
+        .map(|_| {
+            x.next();
+            let at = x.below(12) as usize;
+            let code = 1 + x.below(32);
+            let region = x.below(14);
+            x.next();
+            months[at] = x.below(10_001);
+            Account {
+                code,
+                region,
+                method: x.below(2),
+                count: 12,
+                months,
+                rebate: 0,
+            }
+        })
+        .collect()
+}
+
+/// Runs over 10,000 accounts, of which about half are owed something: the last run may be over more than is left.
+fn rebates(n: u64) -> u64 {
+    let book = with_directed();
+    let mut accounts = drawn_accounts();
+    let mut sum = Sum(0);
+    let mut left = n;
+    while left > 0 {
+        sum.fold_run(book.rebate(&mut accounts));
+        left = left.saturating_sub(ACCOUNTS as u64);
+    }
+    if n > 0 {
+        let owed = accounts.iter().filter(|account| account.rebate > 0).count();
+        assert!((ACCOUNTS / 4..ACCOUNTS * 3 / 4).contains(&owed), "{owed}");
+    }
+    sum.fold(accounts[ACCOUNTS - 1].rebate);
+    sum.0
+}
+
 /// The checksum of one measurement.
 fn measured(measurement: u64, calls: u64) -> u64 {
     match measurement {
@@ -362,7 +432,8 @@ fn measured(measurement: u64, calls: u64) -> u64 {
         5 => trials(calls),
         // There the book is handed to each call and back; here it stands behind a `&mut` as before.
         6 => opens(calls),
-        _ => undos(calls),
+        7 => undos(calls),
+        _ => rebates(calls),
     }
 }
 
@@ -375,11 +446,11 @@ fn main() {
         eprintln!("usage: speed MEASUREMENT CALLS");
         std::process::exit(2);
     };
-    if measurement < 8 {
+    if measurement < 9 {
         println!("{}", measured(measurement, calls));
         return;
     }
-    for each in 0..8 {
+    for each in 0..9 {
         println!("{}", measured(each, calls));
     }
 }

@@ -13,7 +13,7 @@ place-with-requires : tie.Need-place-with-requires
 place-with-requires c κs = search needs
 
 returns : tie.Need-returns
-returns c = c .place-with .ensures ∙ ap (placeWith (c .before .before .args .state)) (c .before .tariff-in .ensures)
+returns c = c .place-with .ensures ∙ ap (placeWith (c .before .before .args .state) (c .before .before .args .p .directed)) (c .before .tariff-in .ensures)
 
 pub in-state-spec : {M : Type 1} → statement M
 in-state-spec = tie.close (tie.spec tariff-in-requires place-with-requires returns)

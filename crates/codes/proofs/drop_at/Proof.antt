@@ -2,7 +2,7 @@
 -- Assumes nothing.
 use mathlib.Core.Path.{_∙_, ap}
 use Rattle.book.proofs.OnePlace.{by-checks}
-use Rattle.codes.specs.Codes.{usableCheck}
+use Rattle.opening.specs.Opening.{usableCheck}
 use borrow.Author.Needs.{needs}
 use Rattle.codes.proofs.drop_at.Statement.{statement}
 use Rattle.codes.proofs.drop_at.Tie as tie

@@ -29,6 +29,9 @@ ask-count c = rw (c .enum-told5 .given .1) at (c .before .before .before .pre .1
 confirm-count : (c : tie.After-enum-told6) → length (c .before .before .before .args .numbers .now) ≡ 1
 confirm-count c = rw (c .enum-told6 .given .1) at (c .before .before .before .pre .1)
 
+direct-count : (c : tie.After-enum-told7) → length (c .before .before .before .args .numbers .now) ≡ 1
+direct-count c = rw (c .enum-told7 .given .1) at (c .before .before .before .pre .1)
+
 enum-told : tie.Need-enum-told
 enum-told c = search needs
 
@@ -92,6 +95,15 @@ shared-slice-read-settle-5 c = omega (arith, confirm-count (c .before))
 settle-requires-5 : tie.Need-settle-requires-5
 settle-requires-5 c κs = search needs
 
+enum-told-7 : tie.Need-enum-told-7
+enum-told-7 c = search needs
+
+shared-slice-read-direct-at : tie.Need-shared-slice-read-direct-at
+shared-slice-read-direct-at c = omega (arith, direct-count (c .before))
+
+direct-at-requires : tie.Need-direct-at-requires
+direct-at-requires c κs = search needs
+
 returns : tie.Need-returns
 returns c b i h = rw (c .before .before .before .enum-told .given .1) (rw rest at (c .put-at .ensures .1 b i _ _ h))
 
@@ -109,6 +121,9 @@ returns-5 c b i h = rw (c .before .before .enum-told5 .given .1) (c .settle4 .en
 
 returns-6 : tie.Need-returns-6
 returns-6 c b i h = rw (c .before .before .enum-told6 .given .1) (c .settle5 .ensures .1 b i h)
+
+returns-7 : tie.Need-returns-7
+returns-7 c b i h = rw (c .before .before .enum-told7 .given .1) (c .direct-at .ensures .1 b i _ _ h)
 
 pub settled-spec : {M : Type 1} → statement M
 settled-spec =
@@ -135,9 +150,13 @@ settled-spec =
     enum-told-6
     shared-slice-read-settle-5
     settle-requires-5
+    enum-told-7
+    shared-slice-read-direct-at
+    direct-at-requires
     returns
     returns-2
     returns-3
     returns-4
     returns-5
-    returns-6)
+    returns-6
+    returns-7)

@@ -38,6 +38,18 @@ slice-aggregate-put-count-2 c = search needs
 put-count-requires-2 : tie.Need-put-count-requires-2
 put-count-requires-2 c κs = search needs
 
+enum-known-arity-3 : tie.Need-enum-known-arity-3
+enum-known-arity-3 c = search needs
+
+slice-aggregate-put-numbered : tie.Need-slice-aggregate-put-numbered
+slice-aggregate-put-numbered c = search needs
+
+slice-aggregate-put-numbered-2 : tie.Need-slice-aggregate-put-numbered-2
+slice-aggregate-put-numbered-2 c = search needs
+
+put-numbered-requires : tie.Need-put-numbered-requires
+put-numbered-requires c κs = search needs
+
 same-length-2 : tie.Need-same-length-2
 same-length-2 c = search needs
 
@@ -53,6 +65,12 @@ same-length-3 c = search needs
 returns-3 : tie.Need-returns-3
 returns-3 c = rw (c .before .before .before .before .before .before .arity2 .given .1) (c .before .before .put-count2 .ensures)
 
+same-length-4 : tie.Need-same-length-4
+same-length-4 c = search needs
+
+returns-4 : tie.Need-returns-4
+returns-4 c = rw (c .before .before .before .before .before .before .before .arity3 .given .1) (c .before .before .put-numbered .ensures .0)
+
 pub put-arity-spec : {M : Type 1} → statement M
 put-arity-spec =
     tie.close
@@ -67,7 +85,13 @@ put-arity-spec =
     enum-known-arity-2
     slice-aggregate-put-count-2
     put-count-requires-2
+    enum-known-arity-3
+    slice-aggregate-put-numbered
+    slice-aggregate-put-numbered-2
+    put-numbered-requires
     same-length-2
     returns-2
     same-length-3
-    returns-3)
+    returns-3
+    same-length-4
+    returns-4)

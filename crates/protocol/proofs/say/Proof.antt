@@ -41,6 +41,9 @@ enum-known-word c = search needs
 enum-known-word-2 : tie.Need-enum-known-word-2
 enum-known-word-2 c = search needs
 
+enum-told-3 : tie.Need-enum-told-3
+enum-told-3 c = search needs
+
 same-length-3 : tie.Need-same-length-3
 same-length-3 c = search needs
 
@@ -67,6 +70,12 @@ same-length-6 c = search needs
 returns-5 : tie.Need-returns-5
 returns-5 c = λ b reach. says-to-do b reach _ _ _ (c .before .before .before .before .before .before .before .before .before .before .before .before .before .args .at) _ _ _ _ _ _ _ (c .before .before .before .before .before .before .before .before .request-of .ensures .0) (c .before .before .before .before .asked .given .1) (c .before .word2 .given .1) (ready (c .before .before .before)) refl
 
+same-length-7 : tie.Need-same-length-7
+same-length-7 c = search needs
+
+returns-6 : tie.Need-returns-6
+returns-6 c = λ b reach. says-to-do b reach _ _ _ (c .before .before .before .before .before .before .before .before .before .before .before .before .args .at) _ _ _ _ _ _ _ (c .before .before .before .before .before .before .before .request-of .ensures .0) (c .before .before .before .asked .given .1) (c .enum-told3 .given .1) (ready (c .before .before)) refl
+
 pub say-spec : {M : Type 1} → statement M
 say-spec =
     tie.close
@@ -81,6 +90,7 @@ say-spec =
     enum-told-2
     enum-known-word
     enum-known-word-2
+    enum-told-3
     same-length-3
     returns-2
     same-length-4
@@ -88,4 +98,6 @@ say-spec =
     same-length-5
     returns-4
     same-length-6
-    returns-5)
+    returns-5
+    same-length-7
+    returns-6)

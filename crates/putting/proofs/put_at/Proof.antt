@@ -1,6 +1,7 @@
 -- `putting::put_at` meets its contract: its checks settle the place, and a record that passes them has 27 numbers.
 -- Assumes nothing.
 use mathlib.Core.Path.{_≡_, sym, _∙_, ap, ap₂}
+use mathlib.Core.Bool.{false}
 use Prim.Native.Nat.{ℕ}
 use denote.Ref.{now}
 use Rattle.refusal.specs.declared.Check.{Check}
@@ -112,7 +113,7 @@ returns-2 c =
     let a = start f .args in
     let passes = sym (checks f) ∙ t .before .enum-told .given .1 in
     let new = u .use-check .ensures ∙ ap (λ (y : Tariff). unless (mayUse (a .desk) (y .regions)) 17 Pass) (t .tariff-of .ensures) in
-    let s = by-checks (putChecks (a .desk) (a .code) (a .p) (now (a .x))) _ _ _ _ _ (c .settled-by2 .ensures) (new ∙ sym (all-pass (a .desk) (a .code) (a .p) (now (a .x)) passes)) (w .place-with .ensures ∙ ap (placeWith Draft) (t .tariff-of .ensures)) in
+    let s = by-checks (putChecks (a .desk) (a .code) (a .p) (now (a .x))) _ _ _ _ _ (c .settled-by2 .ensures) (new ∙ sym (all-pass (a .desk) (a .code) (a .p) (now (a .x)) passes)) (w .place-with .ensures ∙ ap (placeWith Draft false) (t .tariff-of .ensures)) in
     (s, λ b i loaded figures h. puts-there h (a .desk) _ _ s)
 
 pub put-at-spec : {M : Type 1} → statement M

@@ -45,7 +45,7 @@ returns-3 c = (rw (← c .before .before .before .number-at .ensures, c .if3 .ta
 
 returns-4 : tie.Need-returns-4
 returns-4 c = (
-  rw (← c .before .before .before .before .number-at .ensures, ne-eqb _ 0 (c .before .before .before .if1 .left), ne-eqb _ 1 (c .before .before .if2 .left), ne-eqb _ 5 (c .before .if3 .left), le-leb _ 7 (c .if4 .taken)),
+  rw (← c .before .before .before .before .number-at .ensures, ne-eqb _ 0 (c .before .before .before .if1 .left), ne-eqb _ 1 (c .before .before .if2 .left), ne-eqb _ 5 (c .before .if3 .left), le-leb _ 8 (c .if4 .taken)),
   omega arith,
 )
 
@@ -54,7 +54,7 @@ add-result-3 c = search needs
 
 returns-5 : tie.Need-returns-5
 returns-5 c = (
-  rw (← c .before .before .before .before .number-at .ensures, ne-eqb _ 0 (c .before .before .before .if1 .left), ne-eqb _ 1 (c .before .before .if2 .left), ne-eqb _ 5 (c .before .if3 .left), lt-leb _ 7 (c .if4 .left)),
+  rw (← c .before .before .before .before .number-at .ensures, ne-eqb _ 0 (c .before .before .before .if1 .left), ne-eqb _ 1 (c .before .before .if2 .left), ne-eqb _ 5 (c .before .if3 .left), lt-leb _ 8 (c .if4 .left)),
   omega arith,
 )
 

@@ -38,16 +38,25 @@ returns-3 c =
 number-at-requires : tie.Need-number-at-requires
 number-at-requires c κs = search needs
 
+direct-requires : tie.Need-direct-requires
+direct-requires c κs = search needs
+
+returns-4 : tie.Need-returns-4
+returns-4 c = rw (c .before .before .if4 .taken, ← c .before .number-at .ensures) (c .direct .ensures)
+
+number-at-requires-2 : tie.Need-number-at-requires-2
+number-at-requires-2 c κs = search needs
+
 code-act-requires : tie.Need-code-act-requires
 code-act-requires c κs = search needs
 
 act-on-requires : tie.Need-act-on-requires
-act-on-requires c κs = handed (c .before .before .before .before .before .before .before .pre .0) (c .code-act .result)
+act-on-requires c κs = handed (c .before .before .before .before .before .before .before .before .pre .0) (c .code-act .result)
 
-returns-4 : tie.Need-returns-4
-returns-4 c =
+returns-5 : tie.Need-returns-5
+returns-5 c =
     let at = c .before .before .before in
-    rw (ne-eqb _ 0 (at .before .before .if1 .left), ne-eqb _ 1 (at .before .if2 .left), ne-eqb _ 5 (at .if3 .left), ← c .before .code-act .ensures, ← c .before .before .number-at .ensures) (c .act-on .ensures)
+    rw (ne-eqb _ 0 (at .before .before .before .if1 .left), ne-eqb _ 1 (at .before .before .if2 .left), ne-eqb _ 5 (at .before .if3 .left), ne-eqb _ 8 (at .if4 .left), ← c .before .code-act .ensures, ← c .before .before .number-at2 .ensures) (c .act-on .ensures)
 
 pub made-spec : {M : Type 1} → statement M
 made-spec =
@@ -61,6 +70,9 @@ made-spec =
     undo-requires
     returns-3
     number-at-requires
+    direct-requires
+    returns-4
+    number-at-requires-2
     code-act-requires
     act-on-requires
-    returns-4)
+    returns-5)

@@ -6,8 +6,9 @@ use native.Mathlib.Omega.{arith}
 use lib.ListN.{length, take, drop, length-drop}
 use Rattle.lines.specs.declared.Numbers.{Numbers}
 use Rattle.lines.specs.Numerals.{Written}
-use Rattle.request.specs.declared.Named.the-variants.{By}
-use Rattle.request.specs.Requests.{calls, named, callIn}
+use Rattle.naming.specs.declared.Named.the-variants.{By}
+use Rattle.naming.specs.Naming.{calls, named}
+use Rattle.request.specs.Requests.{callIn}
 use Rattle.request.proofs.Requests.{WordAt, no-words, call-unknown, call-bad, call-asks, call-wrong, ready}
 use borrow.Author.Needs.{needs}
 use Rattle.request.proofs.call_at.Statement.{statement}

@@ -1,7 +1,7 @@
 -- `request::names_desk` meets its contract.
 -- Assumes nothing.
 use borrow.Author.Needs.{needs}
-use Rattle.request.proofs.Names.{same-by}
+use Rattle.naming.proofs.Names.{same-by}
 use Rattle.request.proofs.names_desk.Statement.{statement}
 use Rattle.request.proofs.names_desk.Tie as tie
 

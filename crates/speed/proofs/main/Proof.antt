@@ -6,10 +6,10 @@ use Rattle.speed.proofs.main.Statement.{statement}
 use Rattle.speed.proofs.main.Tie as tie
 
 abbrev Inv-loop : tie.InvT-loop
-Inv-loop measurement calls each₀ each = each ≤ 8
+Inv-loop measurement calls each₀ each = each ≤ 9
 
 abbrev μ-loop : tie.MeasureT-loop
-μ-loop measurement calls each₀ each = 8 - each
+μ-loop measurement calls each₀ each = 9 - each
 
 argument-requires : tie.Need-argument-requires Inv-loop μ-loop
 argument-requires c κs = search needs

@@ -16,16 +16,16 @@ use Rattle.book.specs.Book.{beyond}
 use Rattle.texts.proofs.Writing.{puts-size}
 use Rattle.answers.specs.Answers.{answerRoom}
 use Rattle.lines.specs.Words.{between}
-use Rattle.request.specs.declared.CodeStep.{CodeStep}
-use Rattle.request.specs.declared.Query.{Query}
-use Rattle.request.specs.declared.Word.{Word}
-use Rattle.request.specs.declared.Word.the-variants as word
+use Rattle.naming.specs.declared.CodeStep.{CodeStep}
+use Rattle.naming.specs.declared.Word.{Word}
+use Rattle.naming.specs.declared.Word.the-variants as word
+use Rattle.protocol.specs.declared.Question.{Question}
 use Rattle.protocol.specs.declared.Said.{Said}
 use Rattle.protocol.specs.declared.Said.the-variants as said
 use Rattle.protocol.specs.Lines.{Response, stepLine, lineAt}
 use Rattle.book.specs.Settling.{HasPlace}
 use Rattle.stands.proofs.Placed.{kept-gone, kept-stays}
-use Rattle.protocol.specs.Promises.{Answered, ToDo, Says}
+use Rattle.protocol.specs.Promises.{Answered, ToDo, asking, Says}
 use Rattle.taking.specs.Taking.{hasRoom}
 use Rattle.taking.proofs.Taking.{feed-left, room-yes, some-number, has-place, stored-answered, Sofar, sofar-none, sofar-more}
 use Rattle.taking.proofs.take_lines.Statement.{statement}
@@ -73,8 +73,8 @@ module _ (s : tie.After-slice-known4 Inv-loop μ-loop) where
   asks-on : (step : CodeStep) (n desk : ℕ) → s .before .before .before .before .say-line .result ≡ said.On step n desk → Asks (word.On step) n desk
   asks-on step n desk e = subst Saying e said-of
 
-  asks-tells : (query : Query) (n desk : ℕ) → s .before .before .before .before .say-line .result ≡ said.Tells query n desk → Asks (word.Tells query) n desk
-  asks-tells query n desk e = subst Saying e said-of
+  asks-tells : (question : Question) (n desk : ℕ) → s .before .before .before .before .say-line .result ≡ said.Tells question n desk → Asks (asking question) n desk
+  asks-tells question n desk e = subst Saying e said-of
 
   -- the place that a call on a code is made on
   has : (step : CodeStep) (n desk i : ℕ) → Asks (word.On step) n desk → (i < 32) × (inside (getD numbers-of 0 0) ≡ true → suc i ≡ getD numbers-of 0 0)
@@ -224,7 +224,12 @@ do-tell-requires c κs =
     let s = c .before .before .before .before .before in
     let asked = c .before .before .before .said5 .given in
     let a = asks-tells s _ _ _ (asked .1) in
-    (turn s .loop .inv .2 .reachable, rw (length-take-le (asked .0 .1 .0) (numbers-of s) (a .1)) (a .2), omega (arith, ap length (a .3), room-for (s .before .before .before .before .before .before .before .before) (s .before .before .before .before .before .before .before .if1 .taken) .0))
+    let count = length-take-le (asked .0 .1 .0) (numbers-of s) (a .1) in (
+      turn s .loop .inv .2 .reachable,
+      rw count (a .2),
+      rw count (omega (arith, a .1, s .before .before .before .before .say-line .kept .1 .1 .1 .1 .1 .0, turn s .loop .inv .0, began s .pre .2)),
+      omega (arith, ap length (a .3), room-for (s .before .before .before .before .before .before .before .before) (s .before .before .before .before .before .before .before .if1 .taken) .0),
+    )
 
 add-from : tie.Need-add-from Inv-loop μ-loop
 add-from c = omega (arith, c .before .before .before .before .before .before .before .before .before .before .loop-test .taken, c .before .before .before .before .before .before .before .before .before .before .before .before .before .before .before .before .pre .1 .inside, c .before .before .before .before .before .before .before .before .before .before .before .before .before .before .before .before .good)

@@ -7,7 +7,8 @@ use lib.Dec.{eqb}
 use borrow.Author.Needs.{needs}
 use borrow.Author.Tests.{eq-eqb, ne-eqb}
 use Rattle.laws.proofs.Answers.{goes, stays}
-use Rattle.tariff.specs.Tariff.{zeroFrom, economy7}
+use Rattle.fours.specs.Fours.{zeroFrom}
+use Rattle.tariff.specs.Tariff.{economy7}
 use Rattle.tariff.specs.declared.Tariff.{Tariff}
 use Rattle.tariff.proofs.economy_7.Statement.{statement}
 use Rattle.tariff.proofs.economy_7.Tie as tie

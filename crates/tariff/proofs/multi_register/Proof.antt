@@ -11,7 +11,8 @@ use Rattle.laws.specs.Notions.{sum}
 use Rattle.laws.proofs.Every.{and-both}
 use Rattle.laws.proofs.Answers.{goes, stays}
 use Rattle.shares.specs.Shares.{wholeShare}
-use Rattle.tariff.specs.Tariff.{within, zeroFrom, multiRegister}
+use Rattle.fours.specs.Fours.{within, zeroFrom}
+use Rattle.tariff.specs.Tariff.{multiRegister}
 use Rattle.tariff.specs.declared.Tariff.{Tariff}
 use Rattle.tariff.proofs.multi_register.Statement.{statement}
 use Rattle.tariff.proofs.multi_register.Tie as tie

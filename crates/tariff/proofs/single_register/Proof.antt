@@ -9,7 +9,8 @@ use borrow.Author.Needs.{needs}
 use borrow.Author.Tests.{le-leb, lt-leb}
 use Rattle.laws.proofs.Every.{and-both}
 use Rattle.laws.proofs.Answers.{goes, stays}
-use Rattle.tariff.specs.Tariff.{stepMost, within, rising, zeroFrom, singleRegister}
+use Rattle.fours.specs.Fours.{within, rising, zeroFrom}
+use Rattle.tariff.specs.Tariff.{stepMost, singleRegister}
 use Rattle.tariff.specs.declared.Tariff.{Tariff}
 use Rattle.tariff.proofs.single_register.Statement.{statement}
 use Rattle.tariff.proofs.single_register.Tie as tie

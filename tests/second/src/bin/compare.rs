@@ -134,6 +134,20 @@ fn fixed_run(program: &Program, commit: Option<u64>, all_counts: bool) -> Result
         let met = counts.iter().filter(|(what, _)| wanted(what));
         met.map(|(_, times)| times).sum()
     };
+    tell(count("direct ok"), "drafts put under a direction");
+    tell(
+        count("set: one open under a direction, over the cap, stays open"),
+        "tariffs under a direction left open by a sheet that they exceed under",
+    );
+    tell(count("rebate ok"), "rebate runs accepted");
+    tell(
+        sum(&|what| what.starts_with("rebates of ") || what == "rebates rounded up"),
+        "accounts in them",
+    );
+    tell(
+        sum(&|what| what.starts_with("rebate refused 1") && what.split(' ').count() == 3),
+        "rebate runs refused, with the place",
+    );
     tell(
         sum(&|what| what.starts_with("desk ")),
         "of all these calls by a desk that is named",

@@ -10,6 +10,7 @@ use std::process::ExitCode;
 use std::time::Duration;
 
 use desks::WrongDesks;
+use directions::WrongDirections;
 use marks::{Made, WrongMarks};
 use second::desk::{Desk, LINE_LIMIT};
 use second::{
@@ -19,6 +20,8 @@ use second::{
 
 #[path = "wrong_desk/desks.rs"]
 mod desks;
+#[path = "wrong_desk/directions.rs"]
+mod directions;
 #[path = "wrong_desk/marks.rs"]
 mod marks;
 
@@ -41,6 +44,7 @@ struct WrongDesk {
     undos: WrongUndos,
     marks: WrongMarks,
     desks: WrongDesks,
+    directions: WrongDirections,
 }
 
 /// A line that is a call: its desk, if one is named, its word and its numbers.
@@ -152,8 +156,16 @@ impl WrongDesk {
             "desks are not known" if line.starts_with(b"desk ") => b"unknown",
             _ => line,
         };
+        // Blank lines and comments, of which there may be very many.
+        let first = line.iter().find(|&&byte| byte != b' ');
+        if matches!(first, None | Some(b'#' | b'\r')) {
+            return self.desk.line(line, out);
+        }
         if self.fault_of("desks").is_some() {
             return self.line_with_wrong_desks(line, out);
+        }
+        if self.fault_of("directions").is_some() || self.fault_of("rebates").is_some() {
+            return self.line_with_wrong_directions(line, out);
         }
         let start = out.len();
         let Named {
@@ -250,6 +262,41 @@ impl WrongDesk {
         }
     }
 
+    /// A line to a desk that has directions wrong, or rebate runs.
+    fn line_with_wrong_directions(&mut self, line: &[u8], out: &mut Vec<u8>) {
+        let start = out.len();
+        let before = self.desk.book().clone();
+        self.desk.line(line, out);
+        let answer = String::from_utf8_lossy(&out[start..]).into_owned();
+        if answer.is_empty() || answer.starts_with("error") {
+            return;
+        }
+        let named = Named::of(line);
+        let called = directions::Called {
+            named: &named,
+            answer: &answer,
+            before: &before,
+            after: self.desk.book(),
+            records: &self.records,
+        };
+        let wrong = match self.fault_of("rebates") {
+            Some(fault) => directions::wrong_run(fault, &called),
+            None => None,
+        };
+        let fault = self.fault_of("directions").or(self.fault_of("rebates"));
+        let fault = fault.unwrap_or_default().to_string();
+        let wrong = wrong.or_else(|| self.directions.answer(&fault, &called));
+        self.directions.after(&fault, &called);
+        if named.call == "put" && answer == "ok\n" {
+            let record = named.numbers[1..].try_into();
+            self.records[named.numbers[0] as usize] = record.expect("a tariff");
+        }
+        if let Some(wrong) = wrong {
+            out.truncate(start);
+            out.extend_from_slice(wrong.as_bytes());
+        }
+    }
+
     /// A call to a desk whose marks have the fault, or whose ASK or CONFIRM.
     fn line_with_wrong_marks(
         &mut self,
@@ -339,7 +386,7 @@ impl WrongDesk {
                 self.undos.by_sheet = None;
                 return;
             }
-            ("put" | "open" | "ask" | "confirm" | "close" | "drop", true)
+            ("put" | "open" | "ask" | "confirm" | "close" | "drop" | "direct", true)
                 if fault != format!("the chance survives an accepted {call}") =>
             {
                 kept.clear();
@@ -531,7 +578,11 @@ impl WrongDesk {
         } else {
             let charge = wrong_charge(fault)?;
             let record = with_charges(&self.records[code as usize], charge)?;
+            let directed = book.is_directed(code);
             book.put(code, &record).ok()?;
+            if directed {
+                book.direct(code).ok()?;
+            }
         }
         Some(book)
     }
@@ -560,7 +611,8 @@ impl WrongDesk {
         set.ok()?;
         let mut fallen = 0;
         for code in 1..=32 {
-            if self.desk.book().state(code) == Some(State::Open) {
+            let book = self.desk.book();
+            if book.state(code) == Some(State::Open) && !book.is_directed(code) {
                 let record = with_charges(&self.records[code as usize], charge)?;
                 judge.put(code, &record).ok()?;
                 fallen |= u32::from(judge.open(code).is_err()) << (code - 1);
@@ -985,6 +1037,7 @@ fn work(fault: &str) -> io::Result<ExitCode> {
         undos: WrongUndos::default(),
         marks: WrongMarks::default(),
         desks: WrongDesks::default(),
+        directions: WrongDirections::default(),
     };
     match fault {
         "it leaves at once" => return Ok(ExitCode::SUCCESS),

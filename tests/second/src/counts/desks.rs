@@ -10,7 +10,7 @@ use crate::tariff::Tariff;
 pub(super) const ALL: u32 = (1 << REGIONS) - 1;
 
 /// The calls, in the order of their numbers.
-const CALLS: [&str; 12] = [
+const CALLS: [&str; 14] = [
     "set",
     "undo",
     "trial",
@@ -23,6 +23,8 @@ const CALLS: [&str; 12] = [
     "benchmark",
     "maximum",
     "quote",
+    "direct",
+    "rebate",
 ];
 
 /// The sort of a desk.
@@ -131,7 +133,7 @@ impl Counts {
         self.which_region(desk, call, refusal);
         let first = numbers.first().copied().unwrap_or(0);
         match call {
-            "set" | "undo" | "trial" | "benchmark" | "maximum" => {}
+            "set" | "undo" | "trial" | "benchmark" | "maximum" | "rebate" => {}
             "put" => self.put_by_desk(desk, numbers, refusal),
             _ if is_set(desk) && desk != ALL => {
                 if let Some(place) = self.place_of(first) {
@@ -234,6 +236,7 @@ impl Counts {
             "confirm" => number(book.confirm(first).map(drop)),
             "close" => number(book.close(first)),
             "drop" => number(book.drop_code(first)),
+            "direct" => number(book.direct(first)),
             "benchmark" => {
                 let of = book.benchmark(first, numbers[1], numbers[2], numbers[3]);
                 number(of.map(drop))
@@ -256,7 +259,9 @@ impl Counts {
         let place = self.place_of(first);
         let old = place.is_some_and(|place| !has(desk, self.records[place][3]));
         match call {
-            "set" | "undo" | "trial" => desk != ALL,
+            "set" | "undo" | "trial" | "direct" => desk != ALL,
+            // What is outside it is refused with 19.
+            "rebate" => false,
             "benchmark" | "maximum" => !is_set(desk) || first < 14 && !has(desk, 1 << first),
             "put" => {
                 let new = Tariff::new(&numbers[1..]);

@@ -16,8 +16,9 @@ pub(super) struct Mark {
 }
 
 /// What leaves a mark as it is.
-const SINCE: [&str; 18] = [
+const SINCE: [&str; 20] = [
     "ask",
+    "direct",
     "a call refused 17",
     "a refused set",
     "a refused put",
@@ -34,6 +35,7 @@ const SINCE: [&str; 18] = [
     "confirm of another code",
     "close of another code",
     "drop of another code",
+    "direct of another code",
     "a refused call of another code",
 ];
 
@@ -128,14 +130,14 @@ impl Counts {
             ("undo", _) => "a refused undo",
             ("trial", 0) => "trial",
             ("trial", _) => "a refused trial",
-            ("benchmark" | "maximum" | "quote", _) => "a question",
+            ("benchmark" | "maximum" | "quote" | "rebate", _) => "a question",
             _ => "",
         };
         if call == "trial" && refusal == 0 {
             self.marked_over_the_cap(numbers, book);
         }
         let code = match call {
-            "set" | "undo" | "trial" | "benchmark" | "maximum" => 0,
+            "set" | "undo" | "trial" | "benchmark" | "maximum" | "rebate" => 0,
             _ => numbers[0],
         };
         if self.is_marked(code) {
@@ -156,10 +158,12 @@ impl Counts {
             ("confirm", 0) => "confirm of another code",
             ("close", 0) => "close of another code",
             ("drop", 0) => "drop of another code",
+            ("direct", 0) => "direct of another code",
             _ => "a refused call of another code",
         };
         self.since(elsewhere, |other| other != place);
         match (call, refusal) {
+            ("direct", 0) => self.since("direct", |other| other == place),
             ("ask", 0) => self.asked(code, values),
             ("ask", 11) => self.over_by_ask(place, values),
             ("confirm", 0) => self.confirmed(code, values),
@@ -266,6 +270,8 @@ impl Counts {
             self.tally.one("confirm refused 16 beside a marked draft");
         }
         match book.clone().open(code) {
+            // Counted there.
+            _ if self.is_directed(code) => {}
             Ok(_) => self.tally.one("confirm refused 16 within the cap"),
             Err(why) if why.number() == 11 => self.tally.one("confirm refused 16 over the cap"),
             Err(_) => self

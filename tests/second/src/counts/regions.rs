@@ -177,7 +177,7 @@ impl Counts {
     }
 
     /// Whether a tariff is over the cap of the sheet in force.
-    fn over(&mut self, record: &[u32; RECORD]) -> bool {
+    pub(super) fn over(&mut self, record: &[u32; RECORD]) -> bool {
         self.over_at(self.fields[PEAK_SHARE], record)
     }
 

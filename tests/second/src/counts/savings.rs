@@ -85,7 +85,10 @@ impl Counts {
             return;
         }
         match (call, refusal) {
-            ("trial" | "open" | "ask" | "confirm" | "benchmark" | "maximum" | "quote", 0) => {
+            (
+                "trial" | "open" | "ask" | "confirm" | "benchmark" | "maximum" | "quote" | "rebate",
+                0,
+            ) => {
                 count!(self, "under a saving: {call} ok");
             }
             ("open" | "ask", 11) => count!(self, "under a saving: {call} refused 11"),

@@ -144,7 +144,7 @@ impl Counts {
             self.tried = Some(tried);
             return;
         }
-        let query = ["trial", "benchmark", "maximum", "quote"].contains(&call);
+        let query = ["trial", "benchmark", "maximum", "quote", "rebate"].contains(&call);
         if query || refusal > 0 {
             self.tried = Some(tried);
         }
@@ -158,7 +158,10 @@ impl Counts {
                 count!(self, "trial, the same set, then {call} of one that fell");
             }
             _ if tried.set => {}
-            ("close" | "quote", 0) | ("open" | "ask" | "confirm" | "put" | "drop", 7) if fell => {
+            ("close" | "quote", 0)
+            | ("open" | "ask" | "confirm" | "put" | "drop" | "direct", 7)
+                if fell =>
+            {
                 count!(self, "trial, then {call} of one that would fall");
             }
             ("benchmark" | "maximum", 0) if tried.key != self.in_force => {

@@ -54,6 +54,8 @@ fn static_name(call: &str) -> &'static str {
         "benchmark" => "benchmark",
         "maximum" => "maximum",
         "quote" => "quote",
+        "direct" => "direct",
+        "rebate" => "rebate",
         _ => panic!("{call} is no call"),
     }
 }
@@ -94,7 +96,7 @@ impl Counts {
             _ => Last::Call(call, refusal),
         };
         self.last = Some((last, chance));
-        let changes = ["put", "open", "ask", "confirm", "close", "drop"].contains(&call);
+        let changes = ["put", "open", "ask", "confirm", "close", "drop", "direct"].contains(&call);
         if changes && refusal == 0 {
             self.chance = None;
         }
@@ -185,7 +187,7 @@ impl Counts {
         }
         let mut copy = book.clone();
         let mut drafts = (1..=32).filter(|&code| book.state(code) == Some(State::Draft));
-        if drafts.any(|code| copy.open(code).is_ok()) {
+        if drafts.any(|code| copy.open(code).is_ok_and(|cells| cells > 0)) {
             let what = "undo with a draft within the cap of the sheet that comes back";
             self.tally.one(what);
         }
@@ -207,6 +209,7 @@ impl Counts {
         self.open = before.open;
         self.at_shares.clear();
         self.fell_by_share = 0;
+        self.directions_after_undo(book);
     }
 
     fn other_sheet_comes_back(&mut self, period: [u32; 3], before: &Before) {
@@ -243,7 +246,9 @@ impl Counts {
             // Counted there.
             ("set", 0) if undone.key == key(numbers) => {}
             ("set", 0) => return,
-            ("put" | "open" | "ask" | "confirm" | "close" | "drop", 0) => undone.changed = true,
+            ("put" | "open" | "ask" | "confirm" | "close" | "drop" | "direct", 0) => {
+                undone.changed = true;
+            }
             _ => {}
         }
         self.undone = Some(undone);
@@ -272,7 +277,8 @@ impl Counts {
         let first = numbers.first().copied().unwrap_or(0);
         let came_back = among(undone.back, first);
         match (call, refusal) {
-            ("close" | "quote", 0) | ("open" | "ask" | "confirm" | "put" | "drop", 7)
+            ("close" | "quote", 0)
+            | ("open" | "ask" | "confirm" | "put" | "drop" | "direct", 7)
                 if came_back =>
             {
                 count!(self, "undo, then {call} of one that came back");

@@ -27,7 +27,7 @@ enum Stands {
 }
 
 /// Turns of a desk at its own work.
-const WORK: [(Turn, u64); 13] = [
+const WORK: [(Turn, u64); 16] = [
     (Turn::Put, 3),
     (Turn::Open, 4),
     (Turn::Ask, 3),
@@ -41,6 +41,9 @@ const WORK: [(Turn, u64); 13] = [
     (Turn::Regions, 1),
     (Turn::Marks, 2),
     (Turn::Undos, 1),
+    (Turn::Direct, 1),
+    (Turn::Directions, 1),
+    (Turn::Rebate, 2),
 ];
 
 impl Writer {
@@ -63,6 +66,8 @@ impl Writer {
                 | Turn::Quote
                 | Turn::TwoFaults
                 | Turn::Undo
+                | Turn::Direct
+                | Turn::Rebate
         );
         // More of them in the while without a sheet, which is short.
         let seldom = if self.calls < self.bare { 3 } else { 7 };
@@ -80,7 +85,7 @@ impl Writer {
             Whose::One(desk) => Some(desk),
             // In the while without a sheet none is set.
             Whose::Mostly(desk) => {
-                let for_all = ["set", "trial", "undo"].contains(&word);
+                let for_all = ["set", "trial", "undo", "direct"].contains(&word);
                 let unnamed = for_all && self.calls >= self.bare && self.random.one_in(2);
                 (!unnamed).then_some(desk)
             }
@@ -95,7 +100,7 @@ impl Writer {
     fn regions_about(&self, word: &str, numbers: &[u32]) -> u32 {
         let first = numbers.first().copied().unwrap_or(0);
         let regions = match word {
-            "set" | "trial" | "undo" => ALL_REGIONS,
+            "set" | "trial" | "undo" | "direct" => ALL_REGIONS,
             "benchmark" | "maximum" => 1u32.checked_shl(first).unwrap_or(0),
             _ => {
                 let old = self.used_record(first).map_or(0, |record| record[3]);
@@ -155,7 +160,7 @@ impl Writer {
     }
 
     /// Makes some calls as this desk.
-    fn by(&mut self, whose: Whose, calls: impl FnOnce(&mut Writer)) {
+    pub(super) fn by(&mut self, whose: Whose, calls: impl FnOnce(&mut Writer)) {
         let before = std::mem::replace(&mut self.whose, whose);
         calls(self);
         self.whose = before;
@@ -351,12 +356,14 @@ impl Writer {
 
     /// A call on a code.
     pub(super) fn call_on(&mut self, code: u32) {
-        match self.random.below(8) {
+        match self.random.below(10) {
             0 => self.open(code),
             1 => self.ask(code),
             2 => self.confirm(code),
             3 => self.close(code),
             4 => self.drop_code(code),
+            8 => self.direct(code),
+            9 => self.rebate_of(code),
             5 => {
                 let record = match self.used_record(code) {
                     Some(record) if !self.random.one_in(4) => record.to_vec(),

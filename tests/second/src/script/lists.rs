@@ -1,5 +1,5 @@
-//! All lists of up to four calls on one code: ASK, CONFIRM, OPEN, CLOSE, PUT, DROP, SET and UNDO in
-//! every order, from several beginnings. After each list stand calls that show what it left.
+//! All lists of up to four calls on one code: ASK, CONFIRM, OPEN, CLOSE, PUT, DROP, SET, UNDO and
+//! DIRECT in every order, from several beginnings. After each list stand calls that show what it left.
 //!
 //! And all lists of up to three such calls by two desks with a region each, one that has both, and
 //! the one with all fourteen.
@@ -27,6 +27,7 @@ enum Begin {
     PutIn(u32, u32),
     Open,
     Ask,
+    Direct,
 }
 
 /// The reference sheet, and one with a lower SMNCC.
@@ -40,11 +41,13 @@ enum Sheets {
 const AT_THE_CAP: u32 = 23_960;
 /// One within the cap of both sheets.
 const LOW: u32 = 23_000;
+/// One over the cap of both.
+const HIGH: u32 = 23_961;
 
-use Begin::{Ask, Open, Put, PutIn, Set};
+use Begin::{Ask, Direct, Open, Put, PutIn, Set};
 use Sheets::{Mild, Tight};
 
-pub const BEGINNINGS: [Beginning; 6] = [
+pub const BEGINNINGS: [Beginning; 7] = [
     Beginning {
         name: "a draft",
         calls: &[Set(Mild), Put(AT_THE_CAP)],
@@ -81,6 +84,13 @@ pub const BEGINNINGS: [Beginning; 6] = [
         desks: false,
     },
     Beginning {
+        name: "an open tariff under a direction, and a sheet to take back",
+        calls: &[Set(Mild), Put(HIGH), Direct, Open, Set(Tight)],
+        sheets: [Mild, Tight],
+        standing: [HIGH, AT_THE_CAP],
+        desks: false,
+    },
+    Beginning {
         name: "a fresh book",
         calls: &[],
         sheets: [Mild, Tight],
@@ -95,7 +105,7 @@ const SECOND: u32 = 2;
 const BOTH: u32 = FIRST | SECOND;
 
 /// The same for lists with desks.
-pub const BEGINNINGS_WITH_DESKS: [Beginning; 8] = [
+pub const BEGINNINGS_WITH_DESKS: [Beginning; 9] = [
     Beginning {
         name: "a draft of the one",
         calls: &[Set(Mild), PutIn(FIRST, AT_THE_CAP)],
@@ -146,6 +156,13 @@ pub const BEGINNINGS_WITH_DESKS: [Beginning; 8] = [
         desks: true,
     },
     Beginning {
+        name: "a marked draft of the one under a direction",
+        calls: &[Set(Mild), PutIn(FIRST, HIGH), Direct, Ask],
+        sheets: [Tight, Mild],
+        standing: [HIGH, LOW],
+        desks: true,
+    },
+    Beginning {
         name: "a fresh book",
         calls: &[],
         sheets: [Mild, Tight],
@@ -154,10 +171,14 @@ pub const BEGINNINGS_WITH_DESKS: [Beginning; 8] = [
     },
 ];
 
-/// The lists of none to four of eight calls.
-pub const LISTS: usize = 1 + 8 + 64 + 512 + 4_096;
-/// The lists of none to three of 17 calls.
-pub const LISTS_WITH_DESKS: usize = 1 + 17 + 289 + 4_913;
+/// The calls of the lists.
+const CALLS: usize = 9;
+const CALLS_WITH_DESKS: usize = 19;
+
+/// The lists of none to four of nine calls.
+pub const LISTS: usize = 1 + 9 + 81 + 729 + 6_561;
+/// The lists of none to three of 19 calls.
+pub const LISTS_WITH_DESKS: usize = 1 + 19 + 361 + 6_859;
 
 /// The calls of a list, each a number below so many.
 fn list(mut number: usize, calls: usize) -> Vec<usize> {
@@ -182,10 +203,10 @@ impl Beginning {
                 writer.begin(call);
             }
             if self.desks {
-                writer.list_with_desks(self, &list(number, 17));
+                writer.list_with_desks(self, &list(number, CALLS_WITH_DESKS));
                 writer.show_with_desks();
             } else {
-                writer.list(self, &list(number, 8));
+                writer.list(self, &list(number, CALLS));
                 writer.show();
             }
             writer.close(1);
@@ -218,6 +239,7 @@ impl Writer {
             }
             Open => self.open(1),
             Ask => self.ask(1),
+            Direct => self.direct(1),
         }
     }
 
@@ -234,20 +256,35 @@ impl Writer {
                 3 => self.close(1),
                 4 => self.drop_code(1),
                 5 => self.undo(),
+                8 => self.direct(1),
                 6 => self.begin(Put(standing.next().expect("no end of them"))),
                 _ => self.begin(Set(sheets.next().expect("no end of them"))),
             }
         }
     }
 
-    /// What the place holds, whether it is marked, and whether a SET can be taken back: the last
-    /// CONFIRM is for a mark that has come back.
+    /// What the place holds, whether it is marked, whether a SET can be taken back, and whether it is
+    /// under a direction: the last CONFIRM is for a mark that has come back.
     fn show(&mut self) {
         self.quote(1, 0, 1, &[0, 0, 0]);
         self.confirm(1);
         self.undo();
         self.confirm(1);
+        self.run();
+        self.open(1);
         self.call("benchmark", &[0, 0, 1, 0]);
+    }
+
+    /// A rebate run over a household that uses nothing.
+    fn run(&mut self) {
+        self.rebate(&[Account {
+            code: 1,
+            region: 0,
+            method: 1,
+            count: 3,
+            months: [0; 12],
+            rebate: 0,
+        }]);
     }
 
     fn list_with_desks(&mut self, beginning: &Beginning, calls: &[usize]) {
@@ -259,7 +296,7 @@ impl Writer {
             let desk = match call {
                 0..=5 | 16 => Some(FIRST),
                 6..=11 => Some(SECOND),
-                12 => Some(BOTH),
+                12 | 18 => Some(BOTH),
                 _ => None,
             };
             self.whose = desk.map_or(Whose::Unnamed, Whose::One);
@@ -275,6 +312,7 @@ impl Writer {
                 }
                 16 => self.begin(PutIn(BOTH, LOW)),
                 14 => self.undo(),
+                17 | 18 => self.direct(1),
                 _ => self.begin(Set(sheets.next().expect("no end of them"))),
             }
             self.whose = Whose::Unnamed;
@@ -287,12 +325,14 @@ impl Writer {
             self.whose = Whose::One(desk);
             self.quote(1, 0, 1, &[0, 0, 0]);
             self.quote(1, 1, 1, &[0, 0, 0]);
+            self.run();
         }
         self.undo();
         self.whose = Whose::Unnamed;
         self.confirm(1);
         self.undo();
         self.confirm(1);
+        self.open(1);
         self.call("benchmark", &[0, 0, 1, 0]);
     }
 }

@@ -87,7 +87,7 @@ impl Writer {
         let Some(record) = self.used_record(code) else {
             return;
         };
-        match self.random.below(20) {
+        match self.random.below(22) {
             0 => {
                 let dated = self.other_sheet();
                 self.set(&dated);
@@ -128,6 +128,8 @@ impl Writer {
             15 => self.undo(),
             16..=17 => self.set_and_undo(),
             18 => self.no_call(),
+            19 => self.direct(code),
+            20 => self.rebate_of(code),
             _ => self.call_elsewhere(code),
         }
     }
@@ -155,7 +157,7 @@ impl Writer {
         }
         match self.book.state(other) {
             Some(State::Open) => self.close(other),
-            Some(State::Draft) => match self.random.below(6) {
+            Some(State::Draft) => match self.random.below(7) {
                 0 => self.drop_code(other),
                 1 => {
                     let record = self.any_record();
@@ -163,6 +165,7 @@ impl Writer {
                 }
                 2 => self.open(other),
                 3 => self.ask(other),
+                4 => self.direct(other),
                 _ => {
                     self.ask(other);
                     self.confirm(other);

@@ -86,7 +86,7 @@ impl Writer {
     }
 
     pub(super) fn unknown_call(&mut self) -> Vec<u8> {
-        const WORDS: [&[u8]; 36] = [
+        const WORDS: [&[u8]; 44] = [
             b"DESK 3 open 1",
             b"desks 3 open 1",
             b"des 3 open 1",
@@ -108,6 +108,14 @@ impl Writer {
             b"confirms 1",
             b"confir 1",
             b"confirm# 1",
+            b"DIRECT 1",
+            b"directs 1",
+            b"direc 1",
+            b"direct1",
+            b"REBATE",
+            b"rebates",
+            b"rebat",
+            b"rebate#",
             b"Open 1",
             b"opens 1",
             b"ope 1",
@@ -148,7 +156,7 @@ impl Writer {
             b"\xc2\xb2",
             b"1\r",
         ];
-        const CALLS: [&str; 12] = [
+        const CALLS: [&str; 14] = [
             "set",
             "undo",
             "trial",
@@ -161,13 +169,15 @@ impl Writer {
             "benchmark",
             "maximum",
             "quote",
+            "direct",
+            "rebate",
         ];
         let call = self.random.pick(&CALLS);
         let bad = self.random.pick(&WORDS);
-        let count = if ["set", "trial"].contains(&call) {
-            self.random.pick(&[1, 2, 3, 99])
-        } else {
-            1 + self.random.index(15)
+        let count = match call {
+            "set" | "trial" => self.random.pick(&[1, 2, 3, 99]),
+            "rebate" => self.random.pick(&[1, 15, 16, 32, 48]),
+            _ => 1 + self.random.index(15),
         };
         let place = self.random.index(count);
         let mut line = call.as_bytes().to_vec();
@@ -198,7 +208,7 @@ impl Writer {
     }
 
     pub(super) fn wrong_count(&mut self) -> Vec<u8> {
-        const CALLS: [(&str, &[usize]); 12] = [
+        const CALLS: [(&str, &[usize]); 14] = [
             ("set", &[0, 1, 2]),
             ("undo", &[1, 2, 3, 20]),
             ("trial", &[0, 1, 2]),
@@ -211,6 +221,8 @@ impl Writer {
             ("benchmark", &[0, 1, 3, 5, 20]),
             ("maximum", &[0, 1, 3, 5, 20]),
             ("quote", &[0, 1, 2]),
+            ("direct", &[0, 2, 3, 20]),
+            ("rebate", &[1, 4, 8, 15, 17, 31, 33, 40]),
         ];
         let (call, counts) = self.random.pick(&CALLS);
         let mut line = call.to_string();
@@ -233,13 +245,15 @@ impl Writer {
 
     /// A line next to the longest that is taken.
     pub(super) fn long_line(&mut self) -> Vec<u8> {
-        let mut line = match self.random.below(7) {
+        let mut line = match self.random.below(9) {
             0 => b"#".to_vec(),
             1 => b"open 33".to_vec(),
             2 => b"open 33 x".to_vec(),
             3 => b"put 33 0".to_vec(),
             4 => b"benchmark 0 0 0 0".to_vec(),
             5 => b"trial 2023 10 3 0".to_vec(),
+            6 => b"direct 33".to_vec(),
+            7 => b"rebate 33 0 1 3 0 0 0 0 0 0 0 0 0 0 0 0".to_vec(),
             _ => Vec::new(),
         };
         let length = LINE_LIMIT + self.random.pick(&[0, 0, 1, 1, 2, 100, 60_000]);

@@ -7,6 +7,9 @@ use super::*;
 impl Writer {
     /// A trial of any sheet, and what comes after it.
     pub(super) fn any_trial(&mut self) {
+        if self.random.one_in(3) {
+            self.fewer_directions();
+        }
         let mut dated = self.sheet.clone();
         match self.random.below(12) {
             0 => {}

@@ -1,4 +1,4 @@
-//! Two books with the same tariffs, states, marks and period, whose sheets differ in network fields
+//! Two books with the same tariffs, states, marks, directions and period, whose sheets differ in network fields
 //! alone, and the same calls on both: by a desk that has none of those regions, which has to get the
 //! same answers from both, and by one that has such a region.
 
@@ -187,7 +187,7 @@ impl TwoBooks {
     }
 
     /// Tariffs in regions of the desk and in others, that one region among them; drafts, marked ones
-    /// and open ones, alike in both books.
+    /// and open ones, with a direction and without one, alike in both books.
     fn tariffs(&mut self, desk: u32, region: u32) {
         for _ in 0..self.writer.random.between(2, 7) {
             let writer = &mut self.writer;
@@ -207,16 +207,24 @@ impl TwoBooks {
                 record[place] = most;
                 writer.put(code, &record);
             }
+            let directed = writer.random.one_in(3);
+            if directed {
+                writer.direct(code);
+            }
             match writer.random.below(5) {
+                _ if directed && writer.random.one_in(2) => writer.open(code),
                 0 => writer.open(code),
                 1..=2 => writer.ask(code),
                 _ => {}
+            }
+            if writer.random.one_in(6) {
+                writer.direct(code);
             }
         }
         self.said(Said::ToBuild);
         for code in 1..=32 {
             if self.unlike(code) {
-                // A draft without a mark in both.
+                // A draft without a mark or a direction in both.
                 self.writer.close(code);
                 let record = self.writer.record(code);
                 self.writer.put(code, &record);
@@ -229,7 +237,9 @@ impl TwoBooks {
     /// Whether the place of a code is not the same in the one book as in the other.
     fn unlike(&self, code: u32) -> bool {
         let [one, other] = [self.desks[0].book(), self.desks[1].book()];
-        one.state(code) != other.state(code) || one.is_marked(code) != other.is_marked(code)
+        one.state(code) != other.state(code)
+            || one.is_marked(code) != other.is_marked(code)
+            || one.is_directed(code) != other.is_directed(code)
     }
 
     /// What the writer has written goes to both.

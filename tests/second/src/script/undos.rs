@@ -58,6 +58,9 @@ impl Writer {
     /// Open tariffs that fall by a sheet and come back when it is taken back: a look at them, and
     /// the same sheet again.
     fn fall_and_come_back(&mut self) {
+        if self.random.one_in(2) {
+            self.fewer_directions();
+        }
         let mut dated = self.other_sheet();
         let mut fallen = 0;
         for _ in 0..4 {
@@ -153,7 +156,7 @@ impl Writer {
     /// A call of any kind, taken or refused, or a line that is no call.
     pub(super) fn any_call(&mut self) {
         let code = self.any_code();
-        match self.random.below(13) {
+        match self.random.below(15) {
             0 => {
                 let dated = self.good_or_bad_sheet();
                 self.set(&dated);
@@ -175,6 +178,8 @@ impl Writer {
             9 => self.take(Turn::Maximum),
             10 => self.ask(code),
             11 => self.confirm(code),
+            12 => self.direct(code),
+            13 => self.take(Turn::Rebate),
             _ => self.take(Turn::Quote),
         }
     }
@@ -182,7 +187,7 @@ impl Writer {
     /// A line that is no call, or a call that changes nothing: a question, or one that is refused.
     pub(super) fn call_that_changes_nothing(&mut self) {
         let code = self.any_code();
-        match self.random.below(12) {
+        match self.random.below(14) {
             0 => self.refused_set(),
             1 => {
                 let dated = self.good_or_bad_sheet();
@@ -202,6 +207,8 @@ impl Writer {
             8 => self.take(Turn::Maximum),
             9 if self.book.clone().ask(code).is_err() => self.ask(code),
             10 if self.book.clone().confirm(code).is_err() => self.confirm(code),
+            11 if self.book.clone().direct(code).is_err() => self.direct(code),
+            12 => self.rebate_of(code),
             _ => self.take(Turn::Quote),
         }
     }

@@ -29,7 +29,7 @@ const SET: usize = 0;
 const TRIAL: usize = 5;
 
 /// By the number that the programs know them by.
-const MEASUREMENTS: [Measurement; 8] = [
+const MEASUREMENTS: [Measurement; 9] = [
     Measurement {
         name: "SET, 32 open tariffs",
         calls: 150_000,
@@ -69,6 +69,11 @@ const MEASUREMENTS: [Measurement; 8] = [
         name: "SET and the UNDO that takes it back, 32 open tariffs",
         calls: 150_000,
         bar: Some(2.5),
+    },
+    Measurement {
+        name: "REBATE, an account of 12 months, in runs over 10,000",
+        calls: 1_000_000,
+        bar: Some(1.5),
     },
 ];
 

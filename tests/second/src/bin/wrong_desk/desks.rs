@@ -6,6 +6,8 @@ use second::{Book, State, Tariff};
 use crate::{answer_of_line, offered, refusal_of, Named, RECORD};
 
 const ALL: u32 = 16_383;
+/// The calls of a desk with all fourteen.
+const FOR_ALL: [&str; 4] = ["set", "undo", "trial", "direct"];
 
 /// The refusals of each call, in their order.
 fn order(call: &str) -> &'static [u32] {
@@ -17,6 +19,7 @@ fn order(call: &str) -> &'static [u32] {
         "confirm" => &[6, 9, 17, 7, 16],
         "close" => &[6, 9, 17, 12],
         "drop" => &[6, 9, 17, 7],
+        "direct" => &[17, 6, 9, 7],
         "benchmark" | "maximum" => &[13, 17, 10],
         _ => &[6, 9, 10, 13, 17],
     }
@@ -86,7 +89,7 @@ impl Asked<'_> {
     fn code(&self) -> u32 {
         let first = self.named.numbers.first().copied().unwrap_or(0);
         match &self.named.call[..] {
-            "set" | "undo" | "trial" | "benchmark" | "maximum" => 0,
+            "set" | "undo" | "trial" | "benchmark" | "maximum" | "rebate" => 0,
             _ if first > 32 => 0,
             _ => first,
         }
@@ -127,8 +130,8 @@ fn answer_to(book: &Book, line: &[u8]) -> String {
 
 /// The desk that the fault takes for the one of the call.
 fn wrong_desk(fault: &str, call: &str, desk: u32, last: u32, named: bool) -> u32 {
-    let for_all = ["set", "undo", "trial"].contains(&call);
-    let is_code = !["set", "undo", "trial", "benchmark", "maximum"].contains(&call);
+    let for_all = FOR_ALL.contains(&call);
+    let is_code = !for_all && !["benchmark", "maximum"].contains(&call);
     match fault {
         "the last desk stays" if !named => last,
         "without a desk there is none" if !named => 0,
@@ -173,7 +176,7 @@ fn is_outside(fault: &str, asked: &Asked, desk: u32) -> bool {
     if fault == format!("{call}, 17 to every part desk") && desk != ALL {
         return true;
     }
-    if ["set", "undo", "trial"].contains(&call) {
+    if FOR_ALL.contains(&call) {
         return desk != ALL;
     }
     if !is_set(desk) {
@@ -252,6 +255,11 @@ impl WrongDesks {
         if let Some(answer) = wrong_answer(fault, asked, own) {
             return Some(answer);
         }
+        // What is outside the desk is refused by its accounts.
+        if call == "rebate" {
+            let line = Named::line(Some(seen), call, numbers);
+            return Some(answer_to(asked.before, &line));
+        }
         // As the desk with all fourteen is answered, but for 17.
         let line = Named::line(None, call, numbers);
         let to_all = answer_to(asked.before, &line);
@@ -285,7 +293,7 @@ impl WrongDesks {
         match &call[..] {
             "set" => self.chance = true,
             "undo" => self.chance = false,
-            "put" | "open" | "ask" | "confirm" | "close" | "drop" => {
+            "put" | "open" | "ask" | "confirm" | "close" | "drop" | "direct" => {
                 self.chance &= part && fault == "the chance survives a part desk's calls";
             }
             _ => {}

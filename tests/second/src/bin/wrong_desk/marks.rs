@@ -37,7 +37,9 @@ pub struct Made<'a> {
 impl Made<'_> {
     /// The code, if the call has one that is from 1 to 32.
     fn code(&self) -> Option<u32> {
-        let with_code = ["put", "open", "ask", "confirm", "close", "drop", "quote"];
+        let with_code = [
+            "put", "open", "ask", "confirm", "close", "drop", "quote", "direct",
+        ];
         let code = *self.numbers.first()?;
         let has_code = with_code.contains(&self.call) && (1..=32).contains(&code);
         has_code.then_some(code)
@@ -58,13 +60,13 @@ impl Made<'_> {
     }
 }
 
-fn codes(test: impl Fn(u32) -> bool) -> u32 {
+pub fn codes(test: impl Fn(u32) -> bool) -> u32 {
     let met = (1..=32).filter(|&code| test(code));
     met.map(|code| 1 << (code - 1)).sum()
 }
 
 /// The codes that are open in one book and not in another.
-fn open_in_the_one(one: &Book, other: &Book) -> u32 {
+pub fn open_in_the_one(one: &Book, other: &Book) -> u32 {
     let open = |book: &Book| codes(|code| book.state(code) == Some(State::Open));
     open(one) & !open(other)
 }
@@ -89,7 +91,7 @@ impl WrongMarks {
         }
         let (open, draft) = self.misjudged;
         match made.call {
-            "put" | "open" | "ask" | "confirm" | "drop" if open & made.bit() > 0 => {
+            "put" | "open" | "ask" | "confirm" | "drop" | "direct" if open & made.bit() > 0 => {
                 return Some("refused 7\n".to_string())
             }
             "close" if open & made.bit() > 0 => return Some("ok\n".to_string()),

@@ -1,0 +1,3 @@
+pub mod Rebates
+pub mod Repaid
+pub mod Reading

@@ -1,0 +1,2 @@
+pub mod Desks
+pub mod Apart

@@ -1,0 +1,2 @@
+pub mod Queried
+pub mod Tried

@@ -1,0 +1,1 @@
+// What the queries and TRIAL tell of worked books, and their refusals, proved on the definitions (proofs/Queried.antt, proofs/Tried.antt).

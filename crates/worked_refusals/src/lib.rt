@@ -1,0 +1,1 @@
+// Worked lists of calls that are refused, each by one thing that is wrong, proved on the definitions (proofs/Refused.antt).

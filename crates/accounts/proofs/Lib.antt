@@ -1,7 +1,6 @@
-pub mod Again
+pub mod Lending
 pub mod Cut
 pub mod Element
 pub mod First
-pub mod Shared
 pub mod Held
 pub mod OfArray

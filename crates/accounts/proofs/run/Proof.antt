@@ -59,9 +59,8 @@ use Rattle.rebates.specs.Rebates.{placesMost, fails19, fails18, firstPlace, rep
 use Rattle.rebates.specs.Reading.{failsBy, placeOr, answerOf}
 use Rattle.rebates.proofs.Run as S
 use Rattle.rebates.proofs.Run.Laws as S′
-use Rattle.accounts.proofs.Again.{LentAgain, lends-again, comes-back}
 use Rattle.accounts.proofs.Cut.{goes-on}
-use Rattle.accounts.proofs.Shared.{LentShared, lends-shared, shared-back}
+use Rattle.accounts.proofs.Lending.{LentToWrite, LentToRead, lends-to-write, written, lends-to-read, read-only}
 use Rattle.rebates.proofs.Scanned.{holds, fails, place-found, place-none}
 use Rattle.rebates.proofs.Answers.{Right, right-19, right-18, right-total, few}
 use Rattle.accounts.proofs.first_failing as search-fn
@@ -224,19 +223,19 @@ module _ {M : Type 1} (𝓤 : URA M) (H : Heap 𝓤) (A : Atoms 𝓤) (W : Given
 
     -- a call of `first_failing`, as a rule: the slice is lent for a lifetime of the call, and is back where the result lands
     asks : {K : Type 0} → K → (m : ℕ) → m < 2 ^ 32 → {Γ : List (Item 𝓤)} {xs : List Operand} {to : Place} {rest : Body} {p : Kit.Post 𝓤 H}
-        → ((ν : ℕ) (δ : GName) → Opds K W (raw (Search 𝓤 H A mem run .pre (to-search ν δ m)) ∷ ‵ (LentShared T.the-row κ (ν ∷ []) q γ b o ys) ∷ Γ) En xs (book ∷ vint w32 d ∷ vint w32 m ∷ slice ∷ []))
+        → ((ν : ℕ) (δ : GName) → Opds K W (raw (Search 𝓤 H A mem run .pre (to-search ν δ m)) ∷ ‵ (LentToRead T.the-row κ (ν ∷ []) q γ b o ys) ∷ Γ) En xs (book ∷ vint w32 d ∷ vint w32 m ∷ slice ∷ []))
         → ((w : Val) (r : ℕ) → r ≡ found m → Is usize r (w ∷ []) → Seq K W (‵ (flft κ q) ∷ ‵ (Own ys) ∷ Γ) (lands C Λ En to w rest p))
         → Seq K W (‵ (flft κ q) ∷ ‵ (Own ys) ∷ Γ) (runs C Λ En (seq (call #accounts·first-failing xs to) rest) p)
     asks k m fits os go =
         lft-new k tt (λ ν. move k (2 ∷ 1 ∷ []) $
-        use2 W (later (some (λ (δ : GName). ‵ (ShrSlice (named 0) (ν ∷ []) T.the-row .own (x δ ys) (slice ∷ [])) ⊛ ‵ (LentShared T.the-row κ (ν ∷ []) q γ b o ys)))) (lends-shared T.the-row κ (ν ∷ []) q γ b o 𝓤 H A W (named 0) (named 0) ys) $ await k tt $ pick k (λ δ. split k $
+        use2 W (later (some (λ (δ : GName). ‵ (ShrSlice (named 0) (ν ∷ []) T.the-row .own (x δ ys) (slice ∷ [])) ⊛ ‵ (LentToRead T.the-row κ (ν ∷ []) q γ b o ys)))) (lends-to-read T.the-row κ (ν ∷ []) q γ b o 𝓤 H A W (named 0) (named 0) ys) $ await k tt $ pick k (λ δ. split k $
         move k (2 ∷ 0 ∷ []) $ use2 W (raw (Search 𝓤 H A mem run .pre (to-search ν δ m))) (goes-search ν δ m fits) $
         calls-at k fm (Search 𝓤 H A mem run) (known .search) (to-search ν δ m) (os ν δ) (λ w.
         use1 W (later (some (λ (r : ℕ). ((‵ (flft (ν ∷ []) fullShare) ⊛ ‵ ftrue) ⊛ ‵ (usize .own r (w ∷ []))) ⊛ raw (ensured 𝓤 H A search-fn.ended (search-fn.clauses 𝓤 H A mem run) (ν ∷ [], tt) (c, (d, (m, (x δ ys, tt)))) tt r)))) (id⊢ 𝓤 _) $ await k tt $ pick k (λ r.
         split k $ move k (1 ∷ []) $ use1 W (raw (fact 𝓤 (r ≡ found m))) (search-said ν δ m r) $ heard k (r ≡ found m) (λ e. split k $ split k $
         -- [the token; true; the result; what is kept of the loan; …]
         lft-end k tt $ move k (2 ∷ []) $ facts k usize (Is usize) (shows 𝓤 H A usize) r (w ∷ []) (λ is. move k (0 ∷ 2 ∷ []) $
-        use2 W (later (‵ (Own ys) ⊛ ‵ (flft κ q))) (shared-back T.the-row κ (ν ∷ []) q γ b o 𝓤 H A W (named 0) (named 0) ys room) $ await k tt $ split k $ move k (2 ∷ []) $ drop k $ move k (1 ∷ 0 ∷ []) $ go w r e is))))))
+        use2 W (later (‵ (Own ys) ⊛ ‵ (flft κ q))) (read-only T.the-row κ (ν ∷ []) q γ b o 𝓤 H A W (named 0) (named 0) ys room) $ await k tt $ split k $ move k (2 ∷ []) $ drop k $ move k (1 ∷ 0 ∷ []) $ go w r e is))))))
 
     -- a call of `refused`, as a rule
     refuses : {K : Type 0} → K → (m r : ℕ) → m < 2 ^ 32 → r < 2 ^ 64 → {Γ : List (Item 𝓤)} {xs : List Operand} {to : Place} {rest : Body} {p : Kit.Post 𝓤 H}
@@ -283,7 +282,7 @@ module _ {M : Type 1} (𝓤 : URA M) (H : Heap 𝓤) (A : Atoms 𝓤) (W : Given
         assigns ! (addr ! (from ! (fld ! refl (hop ! (look-in ! 24 (sub ! 0 refl (whole !))) (stop !))))) (from ! (stop !)) (init ! 4 refl (tt, tt)) $
         assigns ! (agg ! (and-then ! (load ! (from ! (stop !)) (look ! 4 refl)) (and-then ! (load ! (from ! (fld ! refl (stop !))) (look-in ! 24 (sub ! 1 refl (whole !)))) (no-more !)))) (from ! (stop !)) (init ! 2 refl (tt, (tt, (record { fits = room .0 }, tt)))) $
         lft-new ! tt (λ ν. move ! (2 ∷ 1 ∷ []) $
-        use2 W (later (some (λ (δ : GName). ‵ (MutSlice (named 0) (ν ∷ []) T.the-row .own (x δ ys) (slice ∷ [])) ⊛ ‵ (LentAgain T.the-row κ (ν ∷ []) q γ b o δ ys)))) (lends-again T.the-row κ (ν ∷ []) q γ b o 𝓤 H A W (named 0) (named 0) ys) $ await ! tt $ pick ! (λ δ. split ! $
+        use2 W (later (some (λ (δ : GName). ‵ (MutSlice (named 0) (ν ∷ []) T.the-row .own (x δ ys) (slice ∷ [])) ⊛ ‵ (LentToWrite T.the-row κ (ν ∷ []) q γ b o δ ys)))) (lends-to-write T.the-row κ (ν ∷ []) q γ b o 𝓤 H A W (named 0) (named 0) ys) $ await ! tt $ pick ! (λ δ. split ! $
         move ! (2 ∷ 0 ∷ []) $ use2 W (raw (Write 𝓤 H A mem run .pre (to-write ν δ))) (goes-write ν δ (few c d ys (none 19 r e (fails (ltb r n) failed)))) $
         calls-at ! fm (Write 𝓤 H A mem run) (known .write) (to-write ν δ) (and-then ! (load ! (from ! (stop !)) (look ! 28 refl)) (and-then ! (load ! (from ! (stop !)) (look ! 26 refl)) (and-then ! (load ! (from ! (stop !)) (look ! 2 refl)) (no-more !)))) (λ w″.
         use1 W (later (some (λ (s : ℕ). ((‵ (flft (ν ∷ []) fullShare) ⊛ ‵ ftrue) ⊛ ‵ (u64 .own s (w″ ∷ []))) ⊛ raw (ensured 𝓤 H A write-fn.ended (write-fn.clauses 𝓤 H A mem run) (ν ∷ [], tt) (c, (d, (x δ ys, tt))) tt s)))) (id⊢ 𝓤 _) $ await ! tt $ pick ! (λ s.
@@ -291,7 +290,7 @@ module _ {M : Type 1} (𝓤 : URA M) (H : Heap 𝓤) (A : Atoms 𝓤) (W : Given
         split ! $ move ! (1 ∷ []) $ heard ! ((s ≡ totalOf c d ys) × (zs .1 .1 .0 ≡ map (repaid c d) ys)) (λ es. fsplit ! $ drop ! $ fsplit ! $ drop ! $ fsplit ! $ fsplit ! $ move ! (1 ∷ []) $ feqL ! (λ same. move ! (1 ∷ []) $ drop ! $
         -- [the last list; the token and the result; what is kept of the loan; _14; …]
         move ! (1 ∷ []) $ split ! $ split ! $ lft-end ! tt $ move ! (0 ∷ 4 ∷ 3 ∷ []) $
-        use3 W (later (‵ (Own (zs .1 .1 .0)) ⊛ ‵ (flft κ q))) (comes-back T.the-row κ (ν ∷ []) q γ b o 𝓤 H A W (named 0) (named 0) ys δ (zs .1 .1 .0) room same) $ await ! tt $ split ! $
+        use3 W (later (‵ (Own (zs .1 .1 .0)) ⊛ ‵ (flft κ q))) (written T.the-row κ (ν ∷ []) q γ b o 𝓤 H A W (named 0) (named 0) ys δ (zs .1 .1 .0) room same) $ await ! tt $ split ! $
         -- [what the slice owns; the token; true; the result; _14; …]
         move ! (2 ∷ 3 ∷ 1 ∷ 0 ∷ []) $ drop ! $ facts ! u64 (Is u64) (shows 𝓤 H A u64) s (w″ ∷ []) (λ is″.
         land ! (from ! (stop !)) (init ! 6 refl (uint-lawful 𝓤 H A W w64 .typed s _ is″ .0)) $ rewrite ! 6 (λ (u : Val). ‵ (fat fullShare (tyInt w64) l₁₂ 0 u)) (ap only (is″ .0)) refl $

@@ -79,7 +79,7 @@ use Rattle.book.proofs.Place as P
 use Rattle.book.proofs.Place.Laws as P′
 use Rattle.book.proofs.Book as B
 use Rattle.book.proofs.Book.Laws as B′
-use Rattle.accounts.proofs.Again.{LentAgain, lends-again, comes-back}
+use Rattle.accounts.proofs.Lending.{LentToWrite, lends-to-write, written}
 use Rattle.accounts.proofs.Cut.{goes-on}
 use Rattle.accounts.proofs.Element.{item}
 use Rattle.accounts.proofs.Held.{figures-is, placeVal, placeVals, values-count, value-at, place-is as its-place}
@@ -312,7 +312,7 @@ module _ {M : Type 1} (𝓤 : URA M) (H : Heap 𝓤) (A : Atoms 𝓤) (W : Given
         assigns ! (addr ! (from ! (fld ! refl (hop ! (look-in ! 38 (sub ! 0 refl (whole !))) (stop !))))) (from ! (stop !)) (init ! 4 refl (tt, tt)) $
         assigns ! (agg ! (and-then ! (load ! (from ! (stop !)) (look ! 4 refl)) (and-then ! (load ! (from ! (fld ! refl (stop !))) (look-in ! 38 (sub ! 1 refl (whole !)))) (no-more !)))) (from ! (stop !)) (init ! 2 refl (tt, (tt, (record { fits = room .0 }, tt)))) $
         lft-new ! tt (λ ν. rewrite ! 2 (λ (m : ℕ). ‵ (Own l m)) (sym (to-length (i .0))) refl $ move ! (2 ∷ 1 ∷ []) $
-        use2 W (later (some (λ (δ : GName). ‵ (MutSlice (named 0) (ν ∷ []) T.the-row .own (x δ l) (sliceVal (b, o) (length l) ∷ [])) ⊛ ‵ (LentAgain T.the-row κ (ν ∷ []) q γ b o δ l)))) (lends-again T.the-row κ (ν ∷ []) q γ b o 𝓤 H A W (named 0) (named 0) l) $ await ! tt $ pick ! (λ δ. split ! $
+        use2 W (later (some (λ (δ : GName). ‵ (MutSlice (named 0) (ν ∷ []) T.the-row .own (x δ l) (sliceVal (b, o) (length l) ∷ [])) ⊛ ‵ (LentToWrite T.the-row κ (ν ∷ []) q γ b o δ l)))) (lends-to-write T.the-row κ (ν ∷ []) q γ b o 𝓤 H A W (named 0) (named 0) l) $ await ! tt $ pick ! (λ δ. split ! $
         rewrite ! 0 (λ (m : ℕ). ‵ (MutSlice (named 0) (ν ∷ []) T.the-row .own (x δ l) (sliceVal (b, o) m ∷ []))) (to-length (i .0)) refl $
         move ! (2 ∷ 0 ∷ []) $ use2 W (raw (Store 𝓤 H A mem run .pre (to-store ν δ (i .0) r))) (goes-store ν δ (i .0) r i-fits (isr .1) within) $
         -- [what `store_rebate` asks; what is kept of the loan; _21; …]
@@ -326,7 +326,7 @@ module _ {M : Type 1} (𝓤 : URA M) (H : Heap 𝓤) (A : Atoms 𝓤) (W : Given
         land ! (from ! (stop !)) (init ! 7 refl (nothing-lawful 𝓤 H A W .typed z _ isz .0)) $
         -- the lifetime is ended, and the slice comes back at that list
         split ! $ lft-end ! tt $ move ! (0 ∷ 3 ∷ 2 ∷ []) $
-        use3 W (later (‵ (Own (zs .0) (length l)) ⊛ ‵ (flft κ q))) (comes-back T.the-row κ (ν ∷ []) q γ b o 𝓤 H A W (named 0) (named 0) l δ (zs .0) (subst (Room T.the-row) (sym (to-length (i .0))) room) same) $ await ! tt $ split ! $
+        use3 W (later (‵ (Own (zs .0) (length l)) ⊛ ‵ (flft κ q))) (written T.the-row κ (ν ∷ []) q γ b o 𝓤 H A W (named 0) (named 0) l δ (zs .0) (subst (Room T.the-row) (sym (to-length (i .0))) room) same) $ await ! tt $ split ! $
         rewrite ! 0 (λ (m : ℕ). ‵ (Own (zs .0) m)) (to-length (i .0)) refl $ rewrite ! 0 (λ (ws : List Account). ‵ (Own ws n)) (st ∙ ap (λ (j : ℕ). set l (i .0) (withRebate j (elem (i .0)))) (told k r ix e) ∙ repaid-step c d (i .0) ys less) refl $ move ! (2 ∷ []) $ drop ! $ move ! (1 ∷ 0 ∷ []) $
         -- [the token; what the slice owns; _21; …]
         assigns ! (bin ! (load ! (from ! (stop !)) (look ! 34 refl)) (load ! (from ! (stop !)) (look ! 24 refl)) (record { fits = sum-fits r (e .1) })) (from ! (stop !)) (store ! 34 refl (tt, record { fits = sum-fits r (e .1) })) $

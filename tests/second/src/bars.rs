@@ -1305,13 +1305,19 @@ const BARS: &[(&str, u64)] = &[
 
 /// What is below its bar, and what has none.
 pub fn missed(tally: &Tally) -> Vec<String> {
+    let bars: Vec<(&str, u64)> = bars().copied().collect();
+    missed_of(tally, &bars)
+}
+
+/// The same with other bars.
+pub fn missed_of(tally: &Tally, bars: &[(&str, u64)]) -> Vec<String> {
     let counts = tally.counts();
-    let low = bars().filter(|(what, bar)| tally.count(what) < *bar);
+    let low = bars.iter().filter(|(what, bar)| tally.count(what) < *bar);
     let low =
         low.map(|(what, bar)| format!("too few: {} (at least {bar})  {what}", tally.count(what)));
     let unknown = counts
         .iter()
-        .filter(|(what, _)| !bars().any(|(name, _)| name == *what));
+        .filter(|(what, _)| !bars.iter().any(|(name, _)| name == *what));
     low.chain(unknown.map(|(what, count)| format!("without a bar: {count}  {what}")))
         .collect()
 }

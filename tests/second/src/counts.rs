@@ -10,6 +10,7 @@ use crate::sheet::{field_range, field_value, FIELDS};
 use crate::tally::Tally;
 use crate::tariff::{MONTH_LIMIT, RATE_LIMIT, RECORD, REGIONAL, STANDING_LIMIT, WHOLE};
 use desks::is_part;
+pub use desks::sort as sort_of_desk;
 use directions::Direction;
 use marks::Mark;
 use regions::Quoted;

@@ -38,7 +38,7 @@ pub const OTHER_FUZZ_CASES: u64 = 200;
 
 /// Does jobs 0 to `jobs` - 1, several at a time, and adds up what they counted. `Err` is that of
 /// the first job that failed.
-fn all_jobs(
+pub fn all_jobs(
     jobs: u64,
     workers: usize,
     job: impl Fn(u64) -> Result<Tally, String> + Sync,

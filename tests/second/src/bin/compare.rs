@@ -19,6 +19,7 @@ use second::program::Program;
 use second::runs::*;
 use second::script::{BEGINNINGS, BEGINNINGS_WITH_DESKS, LISTS, LISTS_WITH_DESKS};
 use second::side_by_side::{in_parts, side_by_side};
+use second::tally::grouped;
 
 /// A closing line: how many, and of what.
 fn tell(count: u64, what: &str) {
@@ -223,19 +224,6 @@ fn files(program: &Program, files: &[String]) -> Result<(), String> {
         println!("{file}: the same");
     }
     Ok(())
-}
-
-/// 1234567 as 1,234,567.
-fn grouped(number: u64) -> String {
-    let digits = number.to_string();
-    let mut grouped = String::new();
-    for (i, digit) in digits.chars().enumerate() {
-        if i > 0 && (digits.len() - i).is_multiple_of(3) {
-            grouped.push(',');
-        }
-        grouped.push(digit);
-    }
-    grouped
 }
 
 fn run(program: &Program, rest: &[&str]) -> Result<(), String> {

@@ -28,7 +28,7 @@ const CALLS: [&str; 14] = [
 ];
 
 /// The sort of a desk.
-fn sort(desk: u32) -> &'static str {
+pub fn sort(desk: u32) -> &'static str {
     match desk {
         0 => "0",
         ALL => "16383",

@@ -1,4 +1,4 @@
-"""The library from Python, by ctypes: python3 book.py [libslatewhim.so]. What it prints is in book.out."""
+"""The library from Python, by ctypes: python3 book.py ../../target/library/lib/libslatewhim.so. What it prints is in book.out."""
 import sys
 from ctypes import CDLL, Structure, c_size_t, c_uint32, c_uint64
 

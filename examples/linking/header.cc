@@ -1,6 +1,6 @@
 // slatewhim.h from C++11: the header as it is, a book as a value, and the proved answers of document 01's reference sheet.
 //
-//     c++ -std=c++11 header.cc $(pkg-config --cflags --libs slatewhim) -o header && ./header
+//     c++ -std=c++11 -I../../target/library/include header.cc ../../target/library/lib/libslatewhim.a -o header && ./header
 //
 // What it prints is in header.out.
 #include <slatewhim.h>

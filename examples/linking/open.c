@@ -1,6 +1,6 @@
 /* The reference sheet of document 01 and its tariffs, from C: a sheet, drafts, openings, a direction and a rebate run.
  *
- *     cc open.c $(pkg-config --cflags --libs slatewhim) -o open && ./open
+ *     cc -I../../target/library/include open.c ../../target/library/lib/libslatewhim.a -o open && ./open
  *
  * What it prints is in open.out. Charges are in mills, a thousandth of a penny. */
 #include <stdio.h>

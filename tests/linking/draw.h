@@ -56,6 +56,16 @@ static inline void random_sheet(uint32_t *f) {
     if (one_in(3)) f[93] = 1 + below(wild ? 20000 : 4000);
     if (one_in(3)) f[94] = 1 + below(wild ? 20000 : 5000);
     if (one_in(3)) f[95] = below(1001);
+    if (one_in(4)) {
+        /* a cap of whole mills per kWh, 18,000 and 15,000, so that a month's share can be flat */
+        for (k = 0; k < 20; k++) f[k] = k < 8 ? 0 : k < 16 ? first[k & ~1u] : 0;
+        f[20] = f[21] = 0;
+        f[22] = f[29] = 1000;
+        f[1] = 18 * (f[93] = 3000) * 1000;
+        f[3] = 15 * (f[94] = 4000) * 1000;
+        for (k = 37; k < 93; k += 2) f[k + 1] = f[k];
+        for (k = 25; k < 29; k++) f[k] = f[k + 7];
+    }
     if (one_in(20)) f[below(96)] = odd_number();
 }
 
@@ -70,6 +80,8 @@ static inline void random_tariff(uint32_t *v) {
     v[3] = one_in(3) ? SLATEWHIM_ALL_REGIONS : one_in(2) ? 1 + below(16383) : 1u << below(14);
     v[4] = 1 + below(3);
     for (k = 0; k < n; k++) v[5 + k] = one_in(20) ? below(200001) : (kind == 1 ? 16000 : 13000) + below(4000);
+    if (one_in(3))
+        for (k = 0; k < n; k++) v[5 + k] = (kind == 1 ? 17000 : 14000) + 1000 * below(3);
     if (kind == 1)
         for (k = 0; k + 1 < n; k++) v[9 + k] = (k ? v[8 + k] : 0) + 1 + below(one_in(2) ? 100 : 3300);
     if (kind == 3) {

@@ -221,6 +221,41 @@ static void sheet_and_tariffs(void) {
     IS(slatewhim_close(B, ALL, 8), 0);
 }
 
+/* A month's share that is greatest on a stretch: the smallest consumption is told. */
+static void flat_stretches(void) {
+    uint32_t tariff[SLATEWHIM_RECORD] = {3, 2, 24000, ALL, 2, 15579, 15580, 0, 0, 500, 500};
+    uint32_t k;
+    /* Economy 7, Other: (71,135,500 - 8,817,500) / 4,000 is 15,579.5 mills per kWh. 24,000 for 92 days are 2,208,000, and 3,625 above
+     * 8,817,500 x 3 / 12 */
+    IS(slatewhim_set(B, ALL, sheet, SLATEWHIM_FIELDS, 2023, 10, 3), 0);
+    IS(slatewhim_put(B, ALL, 10, tariff, SLATEWHIM_RECORD), 0);
+    over(slatewhim_open(B, ALL, 10), 3625 * (uint64_t)48000000, 0);
+    /* single-rate, Other, with 2,000 less of network cost at m: 55,650,000 / 3,000 is 18,550 */
+    for (k = 38; k < 93; k += 4) sheet[k] = 11998000;
+    IS(slatewhim_set(B, ALL, sheet, SLATEWHIM_FIELDS, 2023, 10, 3), 0);
+    memset(tariff, 0, sizeof tariff);
+    tariff[0] = 1;
+    tariff[1] = 2;
+    tariff[2] = 24000;
+    tariff[3] = ALL;
+    tariff[4] = 2;
+    tariff[5] = 18550;
+    tariff[6] = 10000;
+    tariff[9] = 100;
+    IS(slatewhim_put(B, ALL, 10, tariff, SLATEWHIM_RECORD), 0);
+    over(slatewhim_open(B, ALL, 10), 3625 * (uint64_t)36000000, 0);
+    /* 20,000 to 100 kWh, 18,550 to 200, then 10,000: 1,840,000 + 6,000,000 against 2,204,375 + 5,565,000 */
+    tariff[1] = 3;
+    tariff[2] = 20000;
+    tariff[5] = 20000;
+    tariff[6] = 18550;
+    tariff[7] = 10000;
+    tariff[10] = 200;
+    IS(slatewhim_put(B, ALL, 10, tariff, SLATEWHIM_RECORD), 0);
+    over(slatewhim_open(B, ALL, 10), 70625 * (uint64_t)36000000, 100);
+    IS(slatewhim_drop(B, ALL, 10), 0);
+}
+
 static void directions_and_rebates(void) {
     static const slatewhim_account monthly = {8, 0, 1, 3, {100, 100, 100, 4294967295u, 0, 0, 0, 0, 0, 0, 0, 7}, 5};
     const size_t most = 1000000;
@@ -228,6 +263,7 @@ static void directions_and_rebates(void) {
     slatewhim_run run;
     size_t i, owed;
 
+    IS(slatewhim_set(B, ALL, sheet, SLATEWHIM_FIELDS, 2023, 10, 3), 0);
     IS(put(8, 1, 2, 20000, 20000, 15000, 100), 0);
     IS(slatewhim_direct(B, 16382, 8), 17);
     IS(slatewhim_direct(B, ALL, 9), 9);
@@ -305,6 +341,8 @@ static void directions_and_rebates(void) {
 int main(void) {
     reference_sheet();
     sheet_and_tariffs();
+    reference_sheet();
+    flat_stretches();
     reference_sheet();
     directions_and_rebates();
     IS(slatewhim_check(B), 0);

@@ -193,15 +193,15 @@ static uint64_t weighted(const struct place *p, const struct sheet *s) {
            (uint64_t)p->rates[3] * p->steps[3];
 }
 
-/* The consumptions above 0 at which a month's share can be greatest, rising: 1,000 times the kWh, and 1,000 x m times the charge. Those
- * that are not used are 0. */
+/* The consumptions above 0 at which a month's share can be greatest, rising: 1,000 times the kWh, and 1,000 x m times the charge. */
 struct corners {
+    uint32_t n;
     int64_t kwh[4], charge[4];
 };
 
 static void corners_of(struct corners *c, const struct place *p, const struct sheet *s) {
     uint32_t k;
-    memset(c, 0, sizeof *c);
+    c->n = p->kind == 1 ? p->n : 1;
     if (p->kind == 1) {
         int64_t scale = 1000 * (int64_t)s->m[0];
         for (k = 0; k + 1 < p->n; k++) {
@@ -230,7 +230,7 @@ static int exceeds(const struct place *p, const struct sheet *s, slatewhim_opene
             const struct charges *of = &s->charges[a][r][k];
             int64_t slope = (int64_t)of->m - of->nil, most = 0, excess;
             if (!(p->methods >> k & 1)) continue;
-            for (i = 0; i < 4; i++) {
+            for (i = 0; i < c.n; i++) {
                 int64_t share = c.charge[i] - slope * c.kwh[i];
                 most = share > most ? share : most;
             }
@@ -238,7 +238,7 @@ static int exceeds(const struct place *p, const struct sheet *s, slatewhim_opene
             if (excess <= 0) continue;
             if (over) {
                 uint32_t worst = 0;
-                for (i = 4; i-- > 0;)
+                for (i = c.n; i-- > 0;)
                     if (most > 0 && c.charge[i] - slope * c.kwh[i] == most) worst = (uint32_t)(c.kwh[i] / 1000);
                 over->region = r;
                 over->method = k;

@@ -1,6 +1,6 @@
 /* Random and damaged images against the library: whatever the words are, nothing outside the book is read or written, a call that
- * answers other than 0 leaves every word as it was, and an image that slatewhim_check lets pass is never SLATEWHIM_NO_BOOK to a call and
- * passes again after it.
+ * answers other than 0 leaves every word as it was, and an image that slatewhim_check lets pass is never SLATEWHIM_NO_BOOK to a call,
+ * passes again after it, and has nothing open or marked that could not be opened as it stands.
  *
  *     images [CALLS]     1,000,000 without it; prints one line with its counts, and ends with status 1 at the first fault
  *
@@ -61,7 +61,7 @@ static int guard_stands(const struct room *room, size_t bytes) {
 
 static uint32_t books[BOOKS][WORDS]; /* what lists of calls left */
 static uint32_t months_of[BOOKS];    /* t of the sheet last set in each */
-static uint32_t fresh[WORDS];
+static uint32_t fresh[WORDS], before_undo[WORDS];
 
 static uint32_t any_word(void) {
     switch (below(5)) {
@@ -77,7 +77,9 @@ static void damage(uint32_t *image) {
 #ifndef TRUSTING
     uint32_t count = 1 + below(one_in(4) ? 40 : 3);
     while (count-- > 0) {
-        uint32_t at = 1 + below(WORDS - 1);
+        uint32_t at = 1 + below(WORDS - 1), tries;
+        /* most often a word that says something */
+        for (tries = 0; tries < 20 && !image[at]; tries++) at = 1 + below(WORDS - 1);
         switch (below(4)) {
         case 0: image[at] ^= 1u << below(32); break;
         case 1: image[at] = image[1 + below(WORDS - 1)]; break;
@@ -250,6 +252,25 @@ static int in_its_order(uint32_t answer) {
     return 0;
 }
 
+/* What holds of a book: what is open or marked can be opened as it stands, and after UNDO the same. */
+static void promise_holds(const uint32_t *image, int undone) {
+    static uint32_t copy[WORDS];
+    const uint32_t all = SLATEWHIM_ALL_REGIONS;
+    uint32_t code;
+    for (code = 1; code <= 32; code++) {
+        uint32_t closed;
+        memcpy(copy, image, sizeof copy);
+        closed = slatewhim_close(copy, WORDS, all, code);
+        if (closed == 12 && !slatewhim_confirm(copy, WORDS, all, code).refusal) closed = slatewhim_close(copy, WORDS, all, code);
+        if (!closed && slatewhim_open(copy, WORDS, all, code).refusal) fault("open in a book that passed, and cannot be opened");
+    }
+    memcpy(copy, image, sizeof copy);
+    if (undone || slatewhim_undo(copy, WORDS, all)) return;
+    if (slatewhim_check(copy, WORDS)) fault("a book became none by UNDO");
+    memcpy(before_undo, copy, sizeof copy);
+    promise_holds(before_undo, 1);
+}
+
 int main(int argc, char **argv) {
     static uint32_t before[WORDS + 1];
     long calls = argc > 1 ? atol(argv[1]) : 1000000, i;
@@ -297,6 +318,7 @@ int main(int argc, char **argv) {
         if (!whole && !pass) fault("slatewhim_check let another length or mark pass");
         if (whole && source < 4 && pass) fault("slatewhim_check refused what calls left");
 
+        if (!pass && (source >= 4 || one_in(16))) promise_holds(before, 0);
         answer = make_call(image, words, &t);
 
         reads = kind == CHECK || kind == TRIAL || kind >= BENCHMARK;

@@ -25,24 +25,18 @@ uint64_t twin_row(int row, long calls, slatewhim_account *accounts, double *seco
 
 static uint32_t book[SLATEWHIM_WORDS];
 static uint32_t reference[SLATEWHIM_FIELDS];
-static uint64_t state, sum;
 
-static void next(void) { state = (state * 1664525 + 1013904223) % ((uint64_t)1 << 32); }
+/* The generator: 32 bits, of which the upper 16 are drawn from. */
+static uint64_t next(uint64_t x) { return (x * 1664525 + 1013904223) % ((uint64_t)1 << 32); }
 
-static uint32_t below(uint32_t n) { return (uint32_t)(state / 65536 % n); }
+static uint32_t below(uint64_t x, uint32_t n) { return (uint32_t)(x / 65536 % n); }
 
-static void fold(uint64_t x) { sum = (sum << 7 | sum >> 57) + x; }
+static uint64_t fold(uint64_t sum, uint64_t x) { return (sum << 7 | sum >> 57) + x; }
 
-static void fold_opened(slatewhim_opened a) {
-    if (a.refusal == 11) {
-        fold(a.region);
-        fold(a.method);
-        fold(a.t);
-        fold(a.excess);
-        fold(a.months[0]);
-        fold(a.months[11]);
-    } else
-        fold(a.refusal ? a.refusal : 100 + a.cells);
+static uint64_t fold_opened(uint64_t sum, const slatewhim_opened *a) {
+    if (a->refusal != 11) return fold(sum, a->refusal ? a->refusal : 100 + a->cells);
+    sum = fold(fold(fold(sum, a->region), a->method), a->t);
+    return fold(fold(fold(sum, a->excess), a->months[0]), a->months[11]);
 }
 
 static void must(int holds, const char *what) {
@@ -141,12 +135,12 @@ static void with_open(int directed) {
 }
 
 /* Draws one of the sheet's network costs anew, and its current DFI. */
-static uint32_t redraw(uint32_t *sheet) {
+static uint32_t redraw(uint32_t *sheet, uint64_t *x) {
     uint32_t at, more;
-    next();
-    at = 37 + below(56);
-    next();
-    more = below(65536);
+    *x = next(*x);
+    at = 37 + below(*x, 56);
+    *x = next(*x);
+    more = below(*x, 65536);
     sheet[at] = reference[at] + more;
     sheet[29] = 1100 + more % 16;
     return more;
@@ -154,18 +148,18 @@ static uint32_t redraw(uint32_t *sheet) {
 
 static void draw_accounts(slatewhim_account *accounts) {
     uint32_t months[12], k;
+    uint64_t x = 1;
     long i;
     for (k = 0; k < 12; k++) months[k] = 1000;
-    state = 1;
     for (i = 0; i < ACCOUNTS; i++) {
         uint32_t at;
-        next();
-        at = below(12);
-        accounts[i].code = 1 + below(32);
-        accounts[i].region = below(14);
-        next();
-        months[at] = below(10001);
-        accounts[i].method = below(2);
+        x = next(x);
+        at = below(x, 12);
+        accounts[i].code = 1 + below(x, 32);
+        accounts[i].region = below(x, 14);
+        x = next(x);
+        months[at] = below(x, 10001);
+        accounts[i].method = below(x, 2);
         accounts[i].count = 12;
         memcpy(accounts[i].months, months, sizeof months);
         accounts[i].rebate = 0;
@@ -174,101 +168,107 @@ static void draw_accounts(slatewhim_account *accounts) {
 
 /* ---- the rows ---- */
 
-static void sets(long n, int undo) {
+static uint64_t sets(long n, int undo) {
     uint32_t sheet[SLATEWHIM_FIELDS];
+    uint64_t x = 1, sum = 0;
     memcpy(sheet, reference, sizeof sheet);
     while (n-- > 0) {
-        uint32_t more = redraw(sheet);
-        fold(slatewhim_set(B, ALL, sheet, SLATEWHIM_FIELDS, 2018 + more % 80, 1 + more % 12, 12));
-        if (undo) fold(slatewhim_undo(B, ALL));
+        uint32_t more = redraw(sheet, &x);
+        sum = fold(sum, slatewhim_set(B, ALL, sheet, SLATEWHIM_FIELDS, 2018 + more % 80, 1 + more % 12, 12));
+        if (undo) sum = fold(sum, slatewhim_undo(B, ALL));
     }
+    return sum;
 }
 
-static void trials(long n) {
+static uint64_t trials(long n) {
     uint32_t sheet[SLATEWHIM_FIELDS];
+    uint64_t x = 1, sum = 0;
     memcpy(sheet, reference, sizeof sheet);
     while (n-- > 0) {
-        uint32_t more = redraw(sheet);
+        uint32_t more = redraw(sheet, &x);
         slatewhim_falling a = slatewhim_trial(B, ALL, sheet, SLATEWHIM_FIELDS, 2018 + more % 80, 1 + more % 12, 12);
-        fold(a.refusal ? a.refusal : 100 + (uint64_t)a.codes);
+        sum = fold(sum, a.refusal ? a.refusal : 100 + (uint64_t)a.codes);
     }
+    return sum;
 }
 
-static void opens(long n) {
+static uint64_t opens(long n, int close) {
+    uint64_t x = 1, sum = 0;
     while (n-- > 0) {
+        slatewhim_opened a;
         uint32_t code;
-        next();
-        code = 1 + below(32);
-        fold_opened(slatewhim_open(B, ALL, code));
-        fold(slatewhim_close(B, ALL, code));
+        x = next(x);
+        code = 1 + below(x, 32);
+        a = slatewhim_open(B, ALL, code);
+        sum = fold_opened(sum, &a);
+        if (close) sum = fold(sum, slatewhim_close(B, ALL, code));
     }
+    return sum;
 }
 
-static void overs(long n) {
-    while (n-- > 0) {
-        next();
-        fold_opened(slatewhim_open(B, ALL, 1 + below(32)));
-    }
-}
-
-static void quotes(long n) {
+static uint64_t quotes(long n) {
     uint32_t months[12], k;
+    uint64_t x = 1, sum = 0;
     for (k = 0; k < 12; k++) months[k] = 1000;
     while (n-- > 0) {
         uint32_t at, code, region;
         slatewhim_quotation q;
-        next();
-        at = below(12);
-        code = 1 + below(32);
-        region = below(14);
-        next();
-        months[at] = below(10001);
-        q = slatewhim_quote(B, ALL, code, region, below(2), months, 12);
-        fold(q.refusal ? q.refusal : q.charge);
-        fold(q.maximum);
+        x = next(x);
+        at = below(x, 12);
+        code = 1 + below(x, 32);
+        region = below(x, 14);
+        x = next(x);
+        months[at] = below(x, 10001);
+        q = slatewhim_quote(B, ALL, code, region, below(x, 2), months, 12);
+        sum = fold(fold(sum, q.refusal ? q.refusal : q.charge), q.maximum);
     }
+    return sum;
 }
 
-static void benchmarks(long n) {
+static uint64_t benchmarks(long n) {
+    uint64_t x = 1, sum = 0;
     while (n-- > 0) {
         uint32_t v;
         slatewhim_charge c;
-        next();
-        v = below(112);
+        x = next(x);
+        v = below(x, 112);
         c = slatewhim_benchmark(B, ALL, v / 8, v / 4 % 2, v / 2 % 2, v % 2);
-        fold(c.refusal ? c.refusal : c.mills);
+        sum = fold(sum, c.refusal ? c.refusal : c.mills);
     }
+    return sum;
 }
 
-static void puts_of(long n) {
+static uint64_t puts_of(long n) {
     static uint32_t tariffs[32][SLATEWHIM_RECORD];
+    uint64_t x = 1, sum = 0;
     uint32_t k;
     for (k = 0; k < 32; k++) mixed(tariffs[k], k, 0);
     while (n-- > 0) {
-        next();
-        fold(slatewhim_put(B, ALL, 1 + below(32), tariffs[below(31)], SLATEWHIM_RECORD));
+        x = next(x);
+        sum = fold(sum, slatewhim_put(B, ALL, 1 + below(x, 32), tariffs[below(x, 31)], SLATEWHIM_RECORD));
     }
+    return sum;
 }
 
-static void rebates(slatewhim_account *accounts, long n, long in_a_run) {
+static uint64_t rebates(slatewhim_account *accounts, long n, long in_a_run) {
+    uint64_t sum = 0;
     for (; n > 0; n -= in_a_run) {
         slatewhim_run run = slatewhim_rebates(B, ALL, accounts, (size_t)in_a_run);
-        fold(run.refusal);
-        fold(run.place);
-        fold(run.total);
+        sum = fold(fold(fold(sum, run.refusal), run.place), run.total);
     }
+    return sum;
 }
 
 /* What stands in the book and the accounts afterwards, so far as calls tell it. */
-static void fold_rest(const slatewhim_account *accounts) {
+static uint64_t fold_rest(uint64_t sum, const slatewhim_account *accounts) {
     uint32_t k;
     long i;
     for (k = 0; k < 32; k++) {
         slatewhim_charge c = slatewhim_benchmark(B, ALL, k % 14, k % 2, k / 2 % 2, k / 4 % 2);
-        fold(slatewhim_close(B, ALL, k + 1));
-        fold(c.mills);
+        sum = fold(fold(sum, slatewhim_close(B, ALL, k + 1)), c.mills);
     }
-    for (i = 0; i < ACCOUNTS; i++) fold(accounts[i].rebate);
+    for (i = 0; i < ACCOUNTS; i++) sum = fold(sum, accounts[i].rebate);
+    return sum;
 }
 
 #ifdef TWIN
@@ -278,6 +278,7 @@ static void fold_rest(const slatewhim_account *accounts) {
 #endif
 
 uint64_t row_of(int row, long calls, slatewhim_account *accounts, double *seconds) {
+    uint64_t sum;
     double begun;
     switch (row) {
     case OPEN_CLOSE: with_drafts(10000); break;
@@ -294,24 +295,21 @@ uint64_t row_of(int row, long calls, slatewhim_account *accounts, double *second
         slatewhim_opened a = slatewhim_open(B, ALL, 1);
         must(a.refusal == 11 && a.region == 13 && a.method == 1, "over the cap in the last cell");
     }
-    state = 1;
-    sum = 0;
     begun = now();
     switch (row) {
-    case SET: sets(calls, 0); break;
-    case OPEN_CLOSE: opens(calls); break;
-    case OVER: overs(calls); break;
-    case QUOTE: quotes(calls); break;
-    case BENCHMARK: benchmarks(calls); break;
-    case PUT: puts_of(calls); break;
-    case TRIAL: trials(calls); break;
-    case SET_UNDO: sets(calls, 1); break;
-    case REBATE: rebates(accounts, calls, 10000); break;
-    default: rebates(accounts, calls, ACCOUNTS);
+    case SET: sum = sets(calls, 0); break;
+    case OPEN_CLOSE: sum = opens(calls, 1); break;
+    case OVER: sum = opens(calls, 0); break;
+    case QUOTE: sum = quotes(calls); break;
+    case BENCHMARK: sum = benchmarks(calls); break;
+    case PUT: sum = puts_of(calls); break;
+    case TRIAL: sum = trials(calls); break;
+    case SET_UNDO: sum = sets(calls, 1); break;
+    case REBATE: sum = rebates(accounts, calls, 10000); break;
+    default: sum = rebates(accounts, calls, ACCOUNTS);
     }
     *seconds = now() - begun;
-    fold_rest(accounts);
-    return sum;
+    return fold_rest(sum, accounts);
 }
 
 #ifndef TWIN

@@ -13,16 +13,11 @@
 
 enum state { EMPTY, DRAFT, MARKED, OPENED };
 
-/* The two benchmarks of a cell. */
-struct charges {
-    uint32_t nil, m;
-};
-
 /* What the calls need of a sheet and its period. t is 0 where there is none. */
 struct sheet {
     uint32_t t, days, peak;
     uint32_t m[2];
-    struct charges charges[2][REGIONS][2]; /* by arrangement, region and method */
+    uint32_t charges[2][REGIONS][2][2]; /* by arrangement, region, method and level */
 };
 
 struct place {
@@ -138,10 +133,10 @@ static uint32_t work_out(struct sheet *s, uint32_t desk, const uint32_t *f, size
         for (r = 0; r < REGIONS; r++)
             for (p = 0; p < 2; p++) {
                 uint64_t nil = f[37 + 4 * r + 2 * a], m = f[38 + 4 * r + 2 * a];
-                struct charges *c = &s->charges[a][r][p];
-                c->nil = (uint32_t)(common[a][p][0] + nil + of_ppm(f[18 + p], nil));
-                c->m = (uint32_t)(common[a][p][1] + m + of_ppm(f[18 + p], m));
-                bad |= c->m < c->nil;
+                uint32_t *c = s->charges[a][r][p];
+                c[0] = (uint32_t)(common[a][p][0] + nil + of_ppm(f[18 + p], nil));
+                c[1] = (uint32_t)(common[a][p][1] + m + of_ppm(f[18 + p], m));
+                bad |= c[1] < c[0];
             }
     if (bad) return 5;
     s->t = t;
@@ -227,14 +222,14 @@ static int exceeds(const struct place *p, const struct sheet *s, slatewhim_opene
         if (!(p->regions >> r & 1)) continue;
         standing = a_day * (p->standing + p->added[r]);
         for (k = 0; k < 2; k++) {
-            const struct charges *of = &s->charges[a][r][k];
-            int64_t slope = (int64_t)of->m - of->nil, most = 0, excess;
+            const uint32_t *of = s->charges[a][r][k];
+            int64_t slope = (int64_t)of[1] - of[0], most = 0, excess;
             if (!(p->methods >> k & 1)) continue;
             for (i = 0; i < c.n; i++) {
                 int64_t share = c.charge[i] - slope * c.kwh[i];
                 most = share > most ? share : most;
             }
-            excess = standing + 12 * t * most - of_nil * of->nil;
+            excess = standing + 12 * t * most - of_nil * of[0];
             if (excess <= 0) continue;
             if (over) {
                 uint32_t worst = 0;
@@ -266,8 +261,8 @@ static uint64_t charge_of(const struct place *p, const struct sheet *s, uint32_t
 
 /* The maximum, times 12 x m. */
 static uint64_t maximum_of(const struct sheet *s, uint32_t region, uint32_t arrangement, uint32_t method, uint64_t total) {
-    const struct charges *c = &s->charges[arrangement][region][method];
-    return (uint64_t)c->nil * s->t * s->m[arrangement] + 12 * (uint64_t)(c->m - c->nil) * total;
+    const uint32_t *c = s->charges[arrangement][region][method];
+    return (uint64_t)c[0] * s->t * s->m[arrangement] + 12 * (uint64_t)(c[1] - c[0]) * total;
 }
 
 /* ---- the book ---- */
@@ -486,9 +481,8 @@ slatewhim_charge slatewhim_benchmark(const uint32_t *book, size_t words, uint32_
     else if (!s->t)
         answer.refusal = 10;
     else {
-        const struct charges *c = &s->charges[arrangement][region][method];
         answer.refusal = 0;
-        answer.mills = level ? c->m : c->nil;
+        answer.mills = s->charges[arrangement][region][method][level];
     }
     return answer;
 }

@@ -33,9 +33,13 @@ static inline uint32_t random_code(void) { return one_in(40) ? odd_number() : on
 
 /* The reference sheet of document 01, with other regions, prices and indices. */
 static inline void random_sheet(uint32_t *f) {
-    static const uint32_t first[37] = {0,       30000000, 0,     36000000, 0,    1000000, 0,   1000000, 1000000, 8000000, 1000000, 8000000, 5000000,
-                                       9000000, 5000000,  9000000, 10000,  10000, 20000,  0,   400000,  0,       1000,    100,     100,     100,
-                                       100,     100,      100,   1100,     100,  105,     100, 100,     100,     100,     500000};
+    static const uint32_t first[37] = {
+        0,       30000000, 0,       36000000, 0,       1000000, 0,       1000000, /* DF0, CM0 */
+        1000000, 8000000,  1000000, 8000000,  5000000, 9000000, 5000000, 9000000, /* PC0, OC0 */
+        10000,   10000,    20000,   0,        400000,  0,                         /* HAP, PAP, PAAC */
+        1000,    100,      100,     100,      100,     100,     100,              /* initial indices */
+        1100,    100,      105,     100,      100,     100,     100,              /* current ones */
+        500000};                                                                  /* SMNCC */
     uint32_t k, wild = one_in(6);
     for (k = 0; k < 37; k++) f[k] = first[k];
     for (; k < 93; k++) f[k] = k % 2 ? 2000000 : 12000000;

@@ -60,9 +60,13 @@ static void is(const char *what, uint64_t found, uint64_t expected) {
 
 /* The reference sheet of document 01, all regions alike. */
 static void reference_sheet(void) {
-    static const uint32_t first[37] = {0,       30000000, 0,     36000000, 0,    1000000, 0,   1000000, 1000000, 8000000, 1000000, 8000000, 5000000,
-                                       9000000, 5000000,  9000000, 10000,  10000, 20000,  0,   400000,  0,       1000,    100,     100,     100,
-                                       100,     100,      100,   1100,     100,  105,     100, 100,     100,     100,     500000};
+    static const uint32_t first[37] = {
+        0,       30000000, 0,       36000000, 0,       1000000, 0,       1000000, /* DF0, CM0 */
+        1000000, 8000000,  1000000, 8000000,  5000000, 9000000, 5000000, 9000000, /* PC0, OC0 */
+        10000,   10000,    20000,   0,        400000,  0,                         /* HAP, PAP, PAAC */
+        1000,    100,      100,     100,      100,     100,     100,              /* initial indices */
+        1100,    100,      105,     100,      100,     100,     100,              /* current ones */
+        500000};                                                                  /* SMNCC */
     int k;
     memcpy(sheet, first, sizeof first);
     for (k = 37; k < 93; k++) sheet[k] = k % 2 ? 2000000 : 12000000;

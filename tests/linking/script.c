@@ -298,7 +298,8 @@ static void write_random(long count) {
                     while (last[good][4] && !(last[good][4] >> (v[2] & 31) & 1)) v[2] = below(2);
                 }
                 v[3] = one_in(40) ? odd_number() : t;
-                for (k = 0; k < 12; k++) v[4 + k] = k >= t && one_in(2) ? odd_number() : one_in(200) ? odd_number() : below(one_in(2) ? 300 : 10001);
+                for (k = 0; k < 12; k++)
+                    v[4 + k] = k >= t && one_in(2) ? odd_number() : one_in(200) ? odd_number() : below(one_in(2) ? 300 : 10001);
                 print_numbers(v, 16);
             }
         }

@@ -55,9 +55,13 @@ static double now(void) {
 
 /* The reference sheet, with network costs lower by 1,000,000 in the last region. */
 static void draw_reference(void) {
-    static const uint32_t first[37] = {0,       30000000, 0,     36000000, 0,    1000000, 0,   1000000, 1000000, 8000000, 1000000, 8000000, 5000000,
-                                       9000000, 5000000,  9000000, 10000,  10000, 20000,  0,   400000,  0,       1000,    100,     100,     100,
-                                       100,     100,      100,   1100,     100,  105,     100, 100,     100,     100,     500000};
+    static const uint32_t first[37] = {
+        0,       30000000, 0,       36000000, 0,       1000000, 0,       1000000, /* DF0, CM0 */
+        1000000, 8000000,  1000000, 8000000,  5000000, 9000000, 5000000, 9000000, /* PC0, OC0 */
+        10000,   10000,    20000,   0,        400000,  0,                         /* HAP, PAP, PAAC */
+        1000,    100,      100,     100,      100,     100,     100,              /* initial indices */
+        1100,    100,      105,     100,      100,     100,     100,              /* current ones */
+        500000};                                                                  /* SMNCC */
     int k;
     memcpy(reference, first, sizeof first);
     for (k = 37; k < 93; k++) reference[k] = (k % 2 ? 2000000 : 12000000) - (k < 89 ? 0 : 1000000);

@@ -1,12 +1,14 @@
 /* Slatewhim: a tariff book that cannot open a tariff above the cap of draft licence condition 28AD.
  *
  * The book is SLATEWHIM_WORDS words of 32 bits that the caller owns. They are opaque; they may be copied, saved and compared byte for
- * byte. The library keeps nothing of its own: no heap, no globals. Two threads may use two books at the same time, or read one.
+ * byte: two books are the same exactly where their words are. The first word is a mark with the version of the layout. The library keeps
+ * nothing of its own: no heap, no globals. Two threads may use two books at the same time, or read one.
  *
- * Every call takes the book as a pointer and its number of words. Pointers must not be NULL, and lists that are handed to one call must
- * not overlap. A call answers 0 or the number of the refusal (docs/REFERENCE.md says what each means), and a refused call changes
- * nothing. SLATEWHIM_NO_BOOK is the answer for words that are no book: of another length, without the mark of this version, or with
- * numbers that the call cannot work with. Any words at all are safe; slatewhim_check tells whether they are a book.
+ * Every call takes the book as a pointer and its number of words. Pointers must not be NULL, also of an empty list, and lists that are
+ * handed to one call must not overlap. A call answers 0 or the number of the refusal (docs/REFERENCE.md says what each means), and a
+ * refused call changes nothing. SLATEWHIM_NO_BOOK is the answer for words that are no book: of another length or without the mark of this
+ * version, before every other answer; or with numbers that the call cannot work with. Any words at all are safe; slatewhim_check tells
+ * whether they are a book.
  *
  * `desk` is the set of the calling desk's regions, bit i for region i; SLATEWHIM_ALL_REGIONS is a desk with all fourteen. */
 #ifndef SLATEWHIM_H

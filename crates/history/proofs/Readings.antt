@@ -30,6 +30,10 @@ use Rattle.history.specs.History.{sheetOf, tariffAt, directedOf, openOf,
 same-readings : (r q : Readings) → r .sheet ≡ q .sheet → ((k : ℕ) → r .held k ≡ q .held k) → r .mayUndo ≡ q .mayUndo → r ≡ q
 same-readings r q s h u = λ i. record { sheet = s i; held = λ k. h k i; mayUndo = u i }
 
+-- where there is no SET to take back
+no-step : {A : Type 0} → false ≡ true → A
+no-step e = never (cc)
+
 -- a reading of code k written at code k is the reading
 rewritten : {A : Type 0} (g : ℕ → A) (k j : ℕ) → cond (eqb k j) (g k) (g j) ≡ g j
 rewritten g k j = go (eqb k j) refl
@@ -151,14 +155,14 @@ module _ (log : List Act) (b : Book) (from : Reachable b) (same : Reads b log) w
   changed-reads desk (PUT k x) e = (
     place-set k (placeWith Draft false (tariffOf x)) (some (tariffOf x)) false false false _ _ _ _ (put-accepted desk k (held (placeOf (b .places) k)) x e .0) refl
         (λ j. refl) (λ j. refl) (λ j. refl) (λ j. refl),
-    λ q. never (cc),
+    no-step,
   )
   changed-reads desk (OPEN k) e =
       let p = placeOf (b .places) k in
       let f = open-accepted desk k (held p) (inForce b) e in (
         place-set k (withState Open p) (tariffAt l k) true false (directedOf l k) _ _ _ _ (f .code) (reheld k (f .h) true false (f .code) (f .its))
             (rewritten (tariffAt l) k) (λ j. refl) (λ j. refl) (rewritten (directedOf l) k),
-        λ q. never (cc),
+        no-step,
       )
   changed-reads desk (CLOSE k) e =
       let p = placeOf (b .places) k in
@@ -166,15 +170,15 @@ module _ (log : List Act) (b : Book) (from : Reachable b) (same : Reads b log) w
       let unmarked = held-there k (f .1) (f .2) .2 ∙ open-unmarked (p .state) (p .directed) (tariffIn p) (f .1) (f .2) (f .3) in (
         place-set k (withState Draft p) (tariffAt l k) false false (directedOf l k) _ _ _ _ (f .0) (reheld k (f .1) false false (f .0) (f .2))
             (rewritten (tariffAt l) k) (λ j. refl) (written (markedOf l) k false (sym unmarked)) (rewritten (directedOf l) k),
-        λ q. never (cc),
+        no-step,
       )
   changed-reads desk (DROP k) e = (
     place-set k empty none false false false _ _ _ _ (drop-accepted desk k (held (placeOf (b .places) k)) e) refl (λ j. refl) (λ j. refl) (λ j. refl) (λ j. refl),
-    λ q. never (cc),
+    no-step,
   )
   changed-reads desk UNDO e = (
     same .1 (sym (ap (λ r. r .mayUndo) (same .0)) ∙ need-accepted (b .kept .any) 15 accepted (need-accepted (isFull desk) 17 _ e .1) .0),
-    λ q. never (cc),
+    no-step,
   )
   changed-reads desk (ASK k) e =
       let p = placeOf (b .places) k in
@@ -182,14 +186,14 @@ module _ (log : List Act) (b : Book) (from : Reachable b) (same : Reads b log) w
       let shut = held-there k (f .h) (f .its) .1 ∙ f .shut in (
         place-set k (withState Marked p) (tariffAt l k) false true (directedOf l k) _ _ _ _ (f .code) (reheld k (f .h) false true (f .code) (f .its))
             (rewritten (tariffAt l) k) (written (openOf l) k false (sym shut)) (λ j. refl) (rewritten (directedOf l) k),
-        λ q. never (cc),
+        no-step,
       )
   changed-reads desk (CONFIRM k) e =
       let p = placeOf (b .places) k in
       let f = confirm-accepted desk k (held p) e in (
         place-set k (withState Open p) (tariffAt l k) true false (directedOf l k) _ _ _ _ (f .0) (reheld k (f .1) true false (f .0) (f .2))
             (rewritten (tariffAt l) k) (λ j. refl) (λ j. refl) (rewritten (directedOf l) k),
-        λ q. never (cc),
+        no-step,
       )
   changed-reads desk (DIRECT k) e =
       let p = placeOf (b .places) k in
@@ -198,7 +202,7 @@ module _ (log : List Act) (b : Book) (from : Reachable b) (same : Reads b log) w
         place-set k (withDirection p) (tariffAt l k) (openOf l k) (markedOf l k) true _ _ _ _ (f .1)
             (directed-held (p .state) (p .directed) (tariffIn p) (f .2) (f .3) ∙ sym (λ i. heldAs (w .0 i) (w .1 i) (w .2 i) true))
             (rewritten (tariffAt l) k) (rewritten (openOf l) k) (rewritten (markedOf l) k) (λ j. refl),
-        λ q. never (cc),
+        no-step,
       )
 
   -- a call, accepted or not
@@ -222,4 +226,4 @@ all-steps (c ∷ cs) log b from same =
     (ap₂ _∷_ (ap (λ r. answer (c .desk) r (c .act)) (same .0)) (r .0), r .1)
 
 pub at-start : Reads fresh []
-at-start = (same-readings _ _ refl (λ k. fresh-place held refl k) refl, λ q. never (cc))
+at-start = (same-readings _ _ refl (λ k. fresh-place held refl k) refl, no-step)

@@ -1,8 +1,8 @@
 -- What OPEN and ASK answer, by what is read from the accepted calls: of a draft under a sheet in force, the verdict on it, unless it is under a
 -- direction. And CONFIRM: of a marked draft, the number of its cells. And DIRECT.
 -- Assumes nothing.
-use mathlib.Core.Path.{_≡_, refl, sym, _∙_, ap, subst₂}
-use mathlib.Core.Bool.{Bool, true, false, cond}
+use mathlib.Core.Path.{_≡_, refl, sym, _∙_, ap, subst, subst₂}
+use mathlib.Core.Bool.{Bool, true, false, not, cond}
 use mathlib.Core.Logic.{_↔_}
 use mathlib.Core.List.{List}
 use mathlib.Core.Option.{Option, none, some}
@@ -13,6 +13,7 @@ use lib.IntN.{pos}
 use lib.Signed.{_≤ℤ_}
 use Rattle.laws.proofs.Differences.{difference-at-most}
 use Rattle.laws.proofs.Never.{never}
+use Rattle.refusal.specs.Checks.{need, given}
 use Rattle.tariff.specs.declared.Tariff.{Tariff}
 use Rattle.tariff.specs.Tariff.{validTariff}
 use Rattle.tariff.proofs.Validity.{valid-regions, valid-methods}
@@ -24,9 +25,9 @@ use Rattle.cap.proofs.Worst.{excess-most, exceeds-at-worst, each-worst}
 use Rattle.verdict.specs.Cells.{Cell, Offered, cellNumbers, cellCount, verdictAt, verdict, firstOver}
 use Rattle.verdict.proofs.Meaning.{none-exceeds, first-exceeds}
 use Rattle.verdict.proofs.Count.{cells-counted}
-use Rattle.book.specs.Calls.{Sheet, Act, OPEN, CONFIRM, DIRECT, cells, refused, isNone}
-use Rattle.book.specs.Checks.{figuresOf, complies, inside, verdictAnswer, answer}
-use Rattle.history.specs.History.{sheetOf, tariffAt, directedOf, openOf, markedOf, readingsOf}
+use Rattle.book.specs.Calls.{Sheet, Act, OPEN, CONFIRM, DIRECT, Answer, cells, refused, isNone}
+use Rattle.book.specs.Checks.{figuresOf, complies, inside, verdictAnswer, openedAs, openAnswer, answer}
+use Rattle.history.specs.History.{sheetOf, tariffAt, directedOf, openOf, markedOf, heldAs, readingsOf}
 use Rattle.claim.specs.Claim.{numbersWith, excessIn, MonthsOf, ExceedsSomewhere, Shows, DraftWhere, OutsideDesk, cellsOffered, cellsAnswered, OpenAnswer, MarkedWith, ConfirmAnswer, DirectAnswer}
 
 -- where a tariff does not exceed, no months are above the maximum
@@ -148,10 +149,10 @@ module _ (desk : ℕ) (log : List Act) (u : Bool) (k : ℕ) (known : (x : Tariff
       directed : directedOf log k ≡ true → OpenAnswer desk log k (cells 0)
       directed fd = passed 0 (λ q. never (cc)) (sym (ap (λ d. cellsAnswered d x) fd))
 
-      judged : directedOf log k ≡ false → (f : Option Cell) → firstOver (figuresOf s) x ≡ f
+      found : directedOf log k ≡ false → (f : Option Cell) → firstOver (figuresOf s) x ≡ f
           → OpenAnswer desk log k (verdictAnswer (verdictAt (figuresOf s) x f))
-      judged fd none e = passed (cellCount x) (λ q. nowhere s x e) (cells-are x (known x ft .1) ∙ sym (ap (λ d. cellsAnswered d x) fd))
-      judged fd (some c) e =
+      found fd none e = passed (cellCount x) (λ q. nowhere s x e) (cells-are x (known x ft .1) ∙ sym (ap (λ d. cellsAnswered d x) fd))
+      found fd (some c) e =
           record {
             over-exactly = (λ q. (s, x, fs, ft, fm, fo, (fd, somewhere s x c e)), λ d. refl);
             over-shows = λ q. (c, _, _, refl, (s, x, fs, ft, fm, fo, shown s x c e));
@@ -159,31 +160,40 @@ module _ (desk : ℕ) (log : List Act) (u : Bool) (k : ℕ) (known : (x : Tariff
             outside-exactly = (λ q. absurd (let z : _≡_ {A = ℕ} 11 17 = cc in omega arith), λ d. absurd (inside-desk fm d));
           }
 
+      judged : directedOf log k ≡ false → OpenAnswer desk log k (verdictAnswer (verdict (figuresOf s) x))
+      unfolding verdict
+      judged fd = found fd (firstOver (figuresOf s) x) refl
+
   -- whether the desk may use the code's tariff, if it has one
   abbrev mayOf : Option Tariff → Bool
   mayOf none = true
   mayOf (some x) = mayUse desk (x .regions)
 
+  -- OPEN's answer, of each thing that its checks look at; so its cases are proved without a rewriting of the readings
+  abbrev opened : (i : Bool) (t : Option Tariff) (a o d : Bool) → Option Sheet → Answer
+  opened i t a o d f =
+      need refused i 6 (given refused t 9 (λ x. need refused a 17 (need refused (not o) 7 (given refused f 10 (λ s. openedAs d (figuresOf s) x)))))
+
+  opened-is : (t : Option Tariff) (o m d : Bool) (f : Option Sheet) → opened (inside k) t (mayOf t) o d f ≡ openAnswer desk k (heldAs t o m d) f
+  opened-is none o m d f = refl
+  opened-is (some x) o m d f = refl
+
+  open-cases : (i : Bool) (t : Option Tariff) (a o d : Bool) (f : Option Sheet)
+      → inside k ≡ i → tariffAt log k ≡ t → mayOf t ≡ a → openOf log k ≡ o → directedOf log k ≡ d → sheetOf log ≡ f
+      → OpenAnswer desk log k (opened i t a o d f)
+  open-cases false t a o d f ei et ea eo ed ef =
+      earlier 6 (omega arith) (λ d. let e = known (d .1) (d .3) .0 in never (cc)) (λ d. let e = known (d .0) (d .1) .0 in never (cc))
+  open-cases true none a o d f ei et ea eo ed ef = earlier 9 (omega arith) (λ d. let e = d .3 in never (cc)) (λ d. let e = d .1 in never (cc))
+  open-cases true (some x) false o d f ei et ea eo ed ef = outside x et ea
+  open-cases true (some x) true true d f ei et ea eo ed ef = earlier 7 (omega arith) (λ d. let e = d .5 in never (cc)) (inside-desk x et ea)
+  open-cases true (some x) true false d none ei et ea eo ed ef = earlier 10 (omega arith) (λ d. let e = d .2 in never (cc)) (inside-desk x et ea)
+  open-cases true (some x) true false true (some s) ei et ea eo ed ef = directed x et s ef ea eo ed
+  open-cases true (some x) true false false (some s) ei et ea eo ed ef = judged x et s ef ea eo ed
+
   pub open-answer : OpenAnswer desk log k (answer desk (readingsOf log u) (OPEN k))
-  unfolding verdict
-  open-answer = go (inside k) (tariffAt log k) (mayOf (tariffAt log k)) (openOf log k) (sheetOf log) (directedOf log k) refl refl refl refl refl refl
-    where
-      go : (i : Bool) (t : Option Tariff) (m o : Bool) (f : Option Sheet) (d : Bool)
-          → inside k ≡ i → tariffAt log k ≡ t → mayOf t ≡ m → openOf log k ≡ o → sheetOf log ≡ f → directedOf log k ≡ d
-          → OpenAnswer desk log k (answer desk (readingsOf log u) (OPEN k))
-      go false t m o f d ei et em eo ef ed =
-          rw ei
-          (earlier 6 (omega arith) (λ d. let e = known (d .1) (d .3) .0 in never (cc)) (λ d. let e = known (d .0) (d .1) .0 in never (cc)))
-      go true none m o f d ei et em eo ef ed =
-          rw (ei, et) (earlier 9 (omega arith) (λ d. let e = d .3 in never (cc)) (λ d. let e = d .1 in never (cc)))
-      go true (some x) false o f d ei et em eo ef ed = rw (ei, et, em) (outside x et em)
-      go true (some x) true true f d ei et em eo ef ed =
-          rw (ei, et, em, eo) (earlier 7 (omega arith) (λ d. let e = d .5 in never (cc)) (inside-desk x et em))
-      go true (some x) true false none d ei et em eo ef ed =
-          rw (ei, et, em, eo, ef) (earlier 10 (omega arith) (λ d. let e = d .2 in never (cc)) (inside-desk x et em))
-      go true (some x) true false (some s) true ei et em eo ef ed = rw (ei, et, em, eo, ef, ed) (directed x et s ef em eo ed)
-      go true (some x) true false (some s) false ei et em eo ef ed =
-          rw (ei, et, em, eo, ef, ed) (judged x et s ef em eo ed (firstOver (figuresOf s) x) refl)
+  open-answer =
+      subst (OpenAnswer desk log k) (opened-is (tariffAt log k) (openOf log k) (markedOf log k) (directedOf log k) (sheetOf log))
+      (open-cases (inside k) (tariffAt log k) (mayOf (tariffAt log k)) (openOf log k) (directedOf log k) (sheetOf log) refl refl refl refl refl refl)
 
   -- the answer to a CONFIRM, where a marked code is a draft
   pub confirm-answer : ((x : Tariff) → tariffAt log k ≡ some x → markedOf log k ≡ true → openOf log k ≡ false)

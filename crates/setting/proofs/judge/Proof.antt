@@ -2,9 +2,10 @@
 -- Assumes nothing.
 use mathlib.Core.Path.{_≡_, sym, _∙_, ap, subst}
 use mathlib.Core.List.{map}
+use Prim.Native.Nat.{ℕ}
 use Rattle.laws.proofs.Never.{never}
 use Rattle.refusal.specs.declared.Check.{Check}
-use Rattle.refusal.specs.declared.Check.the-variants.{Pass}
+use Rattle.refusal.specs.declared.Check.the-variants.{Pass, Refuse}
 use Rattle.benchmark.specs.declared.Benchmarks.{Benchmarks}
 use Rattle.benchmark.specs.Benchmark.{benchmarksOf, setCheck}
 use Rattle.benchmark.specs.Lawful.{Lawful}
@@ -14,6 +15,10 @@ use Rattle.book.specs.Book.{under}
 use borrow.Author.Needs.{needs}
 use Rattle.setting.proofs.judge.Statement.{statement}
 use Rattle.setting.proofs.judge.Tie as tie
+
+-- a check that refuses did not pass
+not-passed : {A : Type 0} {k : Check} {n : ℕ} → k ≡ Refuse n → k ≡ Pass → A
+not-passed e f = never (cc)
 
 -- all checks passed, so the figures are the sheet's, and lawful
 module _ (c : tie.After-enum-told) where
@@ -46,8 +51,8 @@ returns c =
     let refuses = c .enum-told2 .given .1 in
     record {
       checks = c .before .before .before .work-out .ensures .0;
-      works = λ p. never (cc);
-      places = λ p. never (cc);
+      works = λ p. not-passed refuses p;
+      places = λ p. not-passed refuses p;
     }
 
 all-judged-requires : tie.Need-all-judged-requires

@@ -1,0 +1,2 @@
+pub mod Lawfulness
+pub mod Reachable

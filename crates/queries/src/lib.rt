@@ -1,7 +1,7 @@
 // BENCHMARK and MAXIMUM: what the book tells and leaves as it is.
 // Promise: each answers what specs/Queries.antt says to its desk, on refused input too; `tellingOf` reads the answer in the paper's words. They
 // require document 01's own sentence on the book, `Reachable`, since the figures are read from the book and are those of its sheet.
-// What the layer above may use: the answers, which are TRIAL's too, and `refused`.
+// What the layer above may use: the answers, which are TRIAL's too, `refused` and `asked_check`.
 ghost use mathlib.Core.Path.{_≡_};
 ghost use mathlib.Core.Bool.{_&&_};
 ghost use Rattle.refusal.specs.Checks.{unless, first};
@@ -59,7 +59,7 @@ fn ranges_check(region: u32, arrangement: u32, method: u32, last: bool) -> Check
 }
 
 // 13, and then 17: the region is not the desk's.
-fn asked_check(desk: u32, region: u32, arrangement: u32, method: u32, last: bool) -> Check
+pub fn asked_check(desk: u32, region: u32, arrangement: u32, method: u32, last: bool) -> Check
     ensures { λ r. ⌜ r ≡ first (unless (inRanges region arrangement method && last) 13 Pass) (unless (mayQuery desk region) 17 Pass) ⌝ }
 {
     let reached = desks::query_check(desk, region);

@@ -1,2 +1,3 @@
 pub mod Told
 pub mod InForce
+pub mod Placed

@@ -9,11 +9,12 @@ use lib.Dec.{eqb}
 use lib.IntN.{pos}
 use Rattle.book.specs.declared.Book.{Book}
 use Rattle.book.specs.Book.{Reachable}
-use Rattle.queries.specs.Queries.{Telling, refused, benchmarkCharge, maximumCharge}
+use Rattle.queries.specs.Queries.{Telling, refused, benchmarkCharge, maximumCharge, quotation}
 use Rattle.image.specs.Image.{bookIn, isImage}
 use Rattle.image.specs.Changing.{noBook}
 use Rattle.image_queries.specs.declared.Charge.{Charge}
 use Rattle.image_queries.specs.declared.Fraction.{Fraction}
+use Rattle.image_queries.specs.declared.Quotation.{Quotation}
 
 -- an answer read back: with refusal 0 the figures, and else the refusal with its number
 abbrev pub toldBy : (refusal : ℕ) → Telling → Telling
@@ -32,3 +33,7 @@ TellsCharge l asked r = Tells l asked (r .refusal) (benchmarkCharge (pos (r .mil
 abbrev pub TellsFraction : List ℕ → (Book → Telling) → Fraction → Type 0
 TellsFraction l asked r =
     Tells l asked (r .refusal) (maximumCharge (record { number = r .number; denominator = r .denominator })) ((r .number ≡ 0) × (r .denominator ≡ 0))
+
+abbrev pub TellsQuotation : List ℕ → (Book → Telling) → Quotation → Type 0
+TellsQuotation l asked r =
+    Tells l asked (r .refusal) (quotation (record { charge = r .charge; maximum = r .maximum })) ((r .charge ≡ 0) × (r .maximum ≡ 0))

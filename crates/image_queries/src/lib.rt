@@ -8,10 +8,11 @@ ghost use lib.ListN.{length};
 ghost use Rattle.cap.specs.Corners.{Fits};
 ghost use Rattle.verdict.specs.Cells.{cell, cellNumbers};
 ghost use Rattle.queries.specs.Queries.{benchmarkOf, maximumOf};
+ghost use Rattle.quoting.specs.Quote.{quoteOf};
 ghost use Rattle.image.specs.Layout.{wordCount};
 ghost use Rattle.image.specs.Image.{figuresIn};
 ghost use Rattle.image_queries.specs.Reading.{askedIn};
-ghost use Rattle.image_queries.specs.Tells.{TellsCharge, TellsFraction};
+ghost use Rattle.image_queries.specs.Tells.{TellsCharge, TellsFraction, TellsQuotation};
 use cap::CellNumbers;
 use charge::Kwh;
 use image::CHARGES_AT;
@@ -38,6 +39,14 @@ pub struct Fraction {
     pub denominator: u64,
 }
 
+// The charge and the maximum, each times 1,000 × 12 × m.
+#[repr(C)]
+pub struct Quotation {
+    pub refusal: u32,
+    pub charge: u64,
+    pub maximum: u64,
+}
+
 fn wide(x: u32) -> u64
     ensures { λ r. ⌜ r ≡ x ⌝ }
 {
@@ -57,6 +66,16 @@ fn no_fraction(refusal: u32) -> Fraction
         refusal,
         number: 0,
         denominator: 0,
+    }
+}
+
+fn no_quotation(refusal: u32) -> Quotation
+    ensures { λ r. ⌜ r ≡ record { refusal = refusal; charge = 0; maximum = 0 } ⌝ }
+{
+    Quotation {
+        refusal,
+        charge: 0,
+        maximum: 0,
     }
 }
 
@@ -184,6 +203,47 @@ pub fn maximum(
                 refusal: 0,
                 number: most.0,
                 denominator: 12 * e.m,
+            }
+        }
+    }
+}
+
+// QUOTE (code, region, method, months): the place of the code, and the numbers of the cell.
+pub fn quote(
+    image: &[u32],
+    desk: u32,
+    code: u32,
+    region: u32,
+    method: u32,
+    months: &[u32],
+) -> Quotation
+    ensures { λ r. ⌜ TellsQuotation (now (image .entry)) (λ b. quoteOf b desk code region method (now (months .entry))) r ⌝ }
+{
+    if !image::is_image(image) {
+        return no_quotation(NO_BOOK);
+    }
+    let at = image::start_of(checks::index_of(code));
+    let p = image::place_at(image, at);
+    let loaded = image[LOADED_AT] == 1;
+    let t = image[MONTHS_AT];
+    let checked = quoting::check_at(desk, code, p, loaded, t, region, method, months);
+    match checked {
+        Check::Refuse(n) => no_quotation(n),
+        Check::Pass => {
+            if !image_tests::holds_valid(image, at) {
+                return no_quotation(NO_BOOK);
+            }
+            let x = book::tariff_in(p);
+            let standing = tariff::standing_in(x, region);
+            let e = numbers_at(image, verdict::arrangement_of(x), standing, region, method);
+            if !fits(e) {
+                return no_quotation(NO_BOOK);
+            }
+            let sides = cap::sides_of(e, x, months);
+            Quotation {
+                refusal: 0,
+                charge: sides.charged,
+                maximum: sides.capped,
             }
         }
     }

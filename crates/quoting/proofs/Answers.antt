@@ -1,6 +1,6 @@
 -- The answer of QUOTE by the checks that the code makes.
 -- Assumes nothing.
-use mathlib.Core.Path.{_≡_, refl, sym, _∙_, ap}
+use mathlib.Core.Path.{_≡_, refl, sym, _∙_, ap, ap₂}
 use mathlib.Core.Bool.{Bool, true, false, _&&_}
 use mathlib.Core.List.{List}
 use Prim.Native.Nat.{ℕ, suc}
@@ -13,6 +13,8 @@ use Rattle.benchmark.specs.declared.Benchmarks.{Benchmarks}
 use Rattle.tariff.specs.declared.Tariff.{Tariff}
 use Rattle.tariff.specs.Tariff.{validTariff}
 use Rattle.desks.specs.Desks.{mayUse}
+use Rattle.cap.specs.declared.CellNumbers.{CellNumbers}
+use Rattle.cap.specs.Cap.{charged, capped}
 use Rattle.book.specs.declared.State.{State}
 use Rattle.book.specs.declared.State.the-variants.{Empty, Draft, Marked, Open}
 use Rattle.book.specs.declared.Place.{Place}
@@ -79,22 +81,33 @@ quote-there {b} {k} {i} h desk r m months =
     ∙ (λ j. checked refused (checkAt desk k (h .place j) (h .is-loaded j) (h .has-figures j .months) r m months)
     (quotation (quotationIn (sheetIn b) (tariffIn (h .place j)) r m months)))
 
--- past the checks of a place of a book that calls leave: its tariff is valid, a sheet is loaded, and cell and months are allowed
+-- past the checks of a place that holds nothing or a valid tariff, as each of a book that calls leave does: its tariff is valid, a sheet is
+-- loaded, and cell and months are allowed
 pub record Passes (p : Place) (sheet : Bool) (t r m : ℕ) (months : List ℕ) : Type 0 where
   pub filled : emptyCheck (p .state) ≡ Pass
   pub valid : validTariff (tariffIn p) ≡ true
   pub loaded : sheet ≡ true
   pub allows : (cellAllowed (tariffIn p) r m && monthsAllowed t months) ≡ true
 
+module _ (desk k : ℕ) (p : Place) (loaded : Bool) (t r m : ℕ) (months : List ℕ) where
+  pub passes-with : (emptyCheck (p .state) ≡ Pass → validTariff (tariffIn p) ≡ true) → checkAt desk k p loaded t r m months ≡ Pass
+      → Passes p loaded t r m months
+  passes-with valid e =
+      let past-6 = first-passes (codeCheck k) _ e in
+      let past-9 = first-passes (emptyCheck (p .state)) _ (past-6 .1) in
+      let past-10 = first-passes (unless loaded 10 Pass) _ (past-9 .1) in
+      record {
+        filled = past-9 .0;
+        valid = valid (past-9 .0);
+        loaded = unless-passes _ 10 Pass (past-10 .0) .0;
+        allows = unless-passes (cellAllowed (tariffIn p) r m && monthsAllowed t months) 13 Pass (first-passes _ _ (past-10 .1) .0) .0;
+      }
+
 pub passes : {b : Book} {k i : ℕ} {p : Place} {loaded : Bool} {f : Benchmarks} → HasPlace b k i p loaded f → (desk r m : ℕ) (months : List ℕ)
     → checkAt desk k p loaded (f .months) r m months ≡ Pass → Passes p loaded (f .months) r m months
-passes {b} {k} {i} {p} {loaded} {f} h desk r m months e =
-    let past-6 = first-passes (codeCheck k) _ e in
-    let past-9 = first-passes (emptyCheck (p .state)) _ (past-6 .1) in
-    let past-10 = first-passes (unless loaded 10 Pass) _ (past-9 .1) in
-    record {
-      filled = past-9 .0;
-      valid = place-valid h (past-9 .0);
-      loaded = unless-passes _ 10 Pass (past-10 .0) .0;
-      allows = unless-passes (cellAllowed (tariffIn p) r m && monthsAllowed (f .months) months) 13 Pass (first-passes _ _ (past-10 .1) .0) .0;
-    }
+passes {b} {k} {i} {p} {loaded} {f} h desk r m months e = passes-with desk k p loaded (f .months) r m months (place-valid h) e
+
+-- both sides, for the numbers of the cell and the tariff
+pub sides : (months : List ℕ) (n m : ℕ) (e d : CellNumbers) (x y : Tariff) → n ≡ charged e x months → m ≡ capped e months → e ≡ d → x ≡ y
+    → quotation (record { charge = n; maximum = m }) ≡ quotation (record { charge = charged d y months; maximum = capped d months })
+sides months n m e d x y p q f g = λ i. quotation (record { charge = (p ∙ ap₂ (λ (k : CellNumbers) (z : Tariff). charged k z months) f g) i; maximum = (q ∙ ap (λ (k : CellNumbers). capped k months) f) i })

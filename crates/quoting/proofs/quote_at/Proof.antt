@@ -1,34 +1,23 @@
 -- `quoting::quote_at` meets its contract: behind its checks the tariff of the place is valid, and the numbers read are those of its cell.
 -- Assumes nothing.
 use mathlib.Core.Path.{_≡_, sym, _∙_, ap, ap₂}
-use mathlib.Core.Bool.{Bool, true, _&&_}
-use mathlib.Core.List.{List}
-use Prim.Native.Nat.{ℕ}
 use native.Mathlib.Omega.{arith}
 use denote.Ref.{now}
 use Rattle.laws.proofs.Every.{and-left, and-right}
 use Rattle.tariff.specs.declared.Tariff.{Tariff}
 use Rattle.tariff.specs.Tariff.{validTariff}
-use Rattle.cap.specs.declared.CellNumbers.{CellNumbers}
-use Rattle.cap.specs.Cap.{charged, capped}
 use Rattle.verdict.specs.Cells.{cell, tariffNumbers}
 use Rattle.book.specs.Checks.{figuresOf}
 use Rattle.book.specs.Book.{tariffIn, sheetIn}
 use Rattle.stands.proofs.Placed.{place-lawful, figures-there}
-use Rattle.queries.specs.Queries.{quotation}
 use Rattle.quoting.specs.Quote.{cellAllowed, monthsAllowed}
 use Rattle.quoting.proofs.Ranges.{cell-within}
 use Rattle.quoting.proofs.Listed.{months-for}
 use Rattle.queries.proofs.Answers.{hands-on, passed-on}
-use Rattle.quoting.proofs.Answers.{Passes, passes, quote-there}
+use Rattle.quoting.proofs.Answers.{Passes, passes, sides, quote-there}
 use borrow.Author.Needs.{needs}
 use Rattle.quoting.proofs.quote_at.Statement.{statement}
 use Rattle.quoting.proofs.quote_at.Tie as tie
-
--- both sides, for the numbers of the cell and the tariff
-sides : (months : List ℕ) (n m : ℕ) (e d : CellNumbers) (x y : Tariff) → n ≡ charged e x months → m ≡ capped e months → e ≡ d → x ≡ y
-    → quotation (record { charge = n; maximum = m }) ≡ quotation (record { charge = charged d y months; maximum = capped d months })
-sides months n m e d x y p q f g = λ i. quotation (record { charge = (p ∙ ap₂ (λ (k : CellNumbers) (z : Tariff). charged k z months) f g) i; maximum = (q ∙ ap (λ (k : CellNumbers). capped k months) f) i })
 
 -- the arguments, and the tariff of the place
 abbrev start : tie.After-check-at → tie.Start

@@ -79,10 +79,10 @@ module _ (l : List ℕ) where
 
   -- of a book that calls leave: the figures are those of the sheet, and the numbers of each cell fit
   module _ (from : Reachable (bookIn l)) (loaded : bookIn l .loaded ≡ true) where
-    pub charge-told : (r a p n : ℕ) → r < 14 → a < 2 → p < 2 → n < 2 → figureIndex r a p n < 112
+    pub charge-told : (r a p n : ℕ) → r < 14 → a < 2 → p < 2 → n < 2
         → pos (word l (chargesAt + figureIndex r a p n)) ≡ benchmark (bookIn l .fields) r a p n
-    charge-told r a p n hr ha hp hn h =
-        ap pos (sym (charge-in (figureIndex r a p n) h) ∙ ap (λ f. getD (f .charges) (figureIndex r a p n) 0) (sym figures-in))
+    charge-told r a p n hr ha hp hn =
+        ap pos (sym (charge-in (figureIndex r a p n) (omega arith)) ∙ ap (λ f. getD (f .charges) (figureIndex r a p n) 0) (sym figures-in))
         ∙ charge-is (bookIn l) from loaded r a p n hr ha hp hn
 
     pub figures-told : figuresIn l ≡ figuresOf (sheetIn (bookIn l))

@@ -1,6 +1,6 @@
 // BENCHMARK, MAXIMUM and QUOTE asked of an image, reading the words that they need and no others.
-// Promise: specs/Tells.antt, one shape for the three; no words are excluded. The checks are those of the book's own calls, in their order. Nobody
-// promises of any words that they are the figures of a sheet: what the arithmetic needs of them is tested, and words that fail are no book.
+// Promise: specs/Tells.antt, one shape for the three, for any words at all. The checks are those of the book's own calls, in their order. Nobody
+// promises that the words are what a list of calls left: what the cap's arithmetic needs of them is tested, and words that fail are no book.
 ghost use mathlib.Core.Path.{_≡_};
 ghost use mathlib.Core.Bool.{true};
 ghost use Prim.Native.Nat.{_<_};
@@ -23,6 +23,8 @@ use image::MONTHS_AT;
 use image::NO_BOOK;
 use image::PEAK_AT;
 use refusal::Check;
+use shares::WHOLE_SHARE;
+use tariff::STANDING_MOST;
 
 // The answers: 0 or the number of the refusal, and then the figures, which with a refusal are 0.
 #[repr(C)]
@@ -170,10 +172,10 @@ fn fits(e: CellNumbers) -> bool
     if 372 < e.days {
         return false;
     }
-    if 1_000_000 < e.standing {
+    if STANDING_MOST < e.standing {
         return false;
     }
-    e.peak <= 1_000
+    e.peak <= WHOLE_SHARE
 }
 
 // MAXIMUM (region, arrangement, method, total): the whole number and 12 × m.

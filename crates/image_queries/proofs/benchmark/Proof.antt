@@ -3,7 +3,7 @@
 use mathlib.Core.Path.{_≡_, refl, sym, _∙_, ap, subst}
 use mathlib.Core.List.{List}
 use mathlib.Core.Bool.{true}
-use Prim.Native.Nat.{ℕ, _+_, _<_}
+use Prim.Native.Nat.{ℕ, _+_}
 use native.Mathlib.Omega.{arith}
 use lib.Dec.{ltb}
 use lib.IntN.{pos}
@@ -70,7 +70,8 @@ enum-told c = search needs
 figure-index-requires : tie.Need-figure-index-requires
 figure-index-requires c κs =
     let w = passed c .0 in
-    (w .region, w .arrangement, w .method, ltb-true _ 2 (w .fourth))
+    let level = ltb-true (start (c .before .before) .args .level) 2 (w .fourth) in
+    (omega (arith, w .region), omega (arith, w .arrangement), omega (arith, w .method), omega (arith, level))
 
 add-t13 : tie.Need-add-t13
 add-t13 c = search needs
@@ -94,16 +95,14 @@ returns-2 c =
 
 returns-3 : tie.Need-returns-3
 returns-3 c =
-    let i = c .before in
-    let t = i .before in
+    let t = c .before .before in
     let h = t .before .before in
     let st = start h in
     let a = st .args in
     let w = passed t .0 in
-    let at = i .figure-index .ensures in
     gives (image st) (asks st) _ _ (is (h .before)) _ _ (λ from. benchmark-in (image st) (a .desk) (a .region) (a .arrangement) (a .method) (a .level)) (sym (h .asked-of .ensures) ∙ t .enum-told .given .1)
-    (λ from. ap benchmarkCharge (ap (λ (k : ℕ). pos (word (image st) (chargesAt + k))) (at .0)
-    ∙ charge-told (image st) from (passed t .1) (a .region) (a .arrangement) (a .method) (a .level) (w .region) (w .arrangement) (w .method) (ltb-true (a .level) 2 (w .fourth)) (subst (λ (k : ℕ). k < 112) (at .0) (at .1))))
+    (λ from. ap benchmarkCharge (ap (λ (k : ℕ). pos (word (image st) (chargesAt + k))) (c .before .figure-index .ensures .0)
+    ∙ charge-told (image st) from (passed t .1) (a .region) (a .arrangement) (a .method) (a .level) (w .region) (w .arrangement) (w .method) (ltb-true (a .level) 2 (w .fourth))))
 
 pub benchmark-spec : {M : Type 1} → statement M
 benchmark-spec =

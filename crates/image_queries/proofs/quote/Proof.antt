@@ -41,21 +41,21 @@ abbrev asks : tie.Start → Book → Telling
 asks st b = let a = st .args in quoteOf b (a .desk) (a .code) (a .region) (a .method) (now (a .months))
 
 -- an image
-abbrev begun : tie.Else1 → tie.Start
-begun c = c .before .before .before .before
+abbrev entry : tie.Else1 → tie.Start
+entry c = c .before .before .before .before
 
-is : (c : tie.Else1) → isImage (image (begun c)) ≡ true
+is : (c : tie.Else1) → isImage (image (entry c)) ≡ true
 is c = sym (c .before .is-image .ensures) ∙ not-false _ (c .if1 .left)
 
 -- the place of the code
 abbrev found : tie.After-check-at → tie.After-place-at
 found h = h .before .before .before
 
-abbrev begin : tie.After-check-at → tie.Else1
-begin h = found h .before .before .before
+abbrev seen : tie.After-check-at → tie.Else1
+seen h = found h .before .before .before
 
 abbrev start : tie.After-check-at → tie.Start
-start h = begun (begin h)
+start h = entry (seen h)
 
 abbrev index : tie.After-check-at → ℕ
 index h = found h .before .before .index-of .result
@@ -129,17 +129,17 @@ start-of-requires c κs = search needs
 place-at-requires : tie.Need-place-at-requires
 place-at-requires c κs =
     let b = c .before .before in
-    omega (arith, c .start-of .ensures .1, image-size (image (begun b)) (is b))
+    omega (arith, c .start-of .ensures .1, image-size (image (entry b)) (is b))
 
 shared-slice-read-loaded : tie.Need-shared-slice-read-loaded
 shared-slice-read-loaded c =
     let b = c .before .before .before .before in
-    omega (arith, image-size (image (begun b)) (is b))
+    omega (arith, image-size (image (entry b)) (is b))
 
 shared-slice-read-t : tie.Need-shared-slice-read-t
 shared-slice-read-t c =
     let b = c .before .before .before .before .before in
-    omega (arith, image-size (image (begun b)) (is b))
+    omega (arith, image-size (image (entry b)) (is b))
 
 check-at-requires : tie.Need-check-at-requires
 check-at-requires c κs = search needs
@@ -156,7 +156,7 @@ enum-told c = search needs
 holds-valid-requires : tie.Need-holds-valid-requires
 holds-valid-requires c κs =
     let h = c .before .before in
-    omega (arith, found h .before .start-of .ensures .1, image-size (image (start h)) (is (begin h)))
+    omega (arith, found h .before .start-of .ensures .1, image-size (image (start h)) (is (seen h)))
 
 no-quotation-requires-3 : tie.Need-no-quotation-requires-3
 no-quotation-requires-3 c κs = search needs
@@ -169,7 +169,7 @@ returns-2 c =
     let i = found h .before .before .index-of .ensures in
     let fails = refuted _ _ (v .holds-valid .ensures .1) (not-true _ (c .before .if2 .taken)) in
     subst (TellsQuotation (image st) (asks st)) (sym (c .no-quotation3 .ensures))
-    (not-reached (image st) (asks st) _ _ (is (begin h))
+    (not-reached (image st) (asks st) _ _ (is (seen h))
     (λ from. fails (subst (λ (k : ℕ). HoldsValid (placeAt (image st) k)) (sym (found h .before .start-of .ensures .0)) (holds-there (image st) from (index h) (i .0)))) (refl, refl))
 
 tariff-in-requires : tie.Need-tariff-in-requires
@@ -185,7 +185,7 @@ numbers-at-requires : tie.Need-numbers-at-requires
 numbers-at-requires c κs =
     let v = c .before .before .before in
     let h = checked v in
-    (image-size (image (start h)) (is (begin h)), c .arrangement-of .ensures .1, in-cell v .0, in-cell v .1)
+    (image-size (image (start h)) (is (seen h)), c .arrangement-of .ensures .1, in-cell v .0, in-cell v .1)
 
 fits-requires : tie.Need-fits-requires
 fits-requires c κs = search needs
@@ -202,7 +202,7 @@ returns-3 c =
     let a = st .args in
     let fails = refuted _ _ (c .before .before .fits2 .ensures .1) (not-true _ (c .before .if3 .taken)) in
     subst (TellsQuotation (image st) (asks st)) (sym (c .no-quotation4 .ensures))
-    (not-reached (image st) (asks st) _ _ (is (begin h))
+    (not-reached (image st) (asks st) _ _ (is (seen h))
     (λ from. fails (subst Fits (sym (e .numbers-at .ensures)) (cell-fits (image st) from (loaded-in (image st) ∙ passed v .loaded) (a .region) (e .before .arrangement-of .result) (a .method) (e .before .before .standing-in .result) (in-cell v .0) (e .before .arrangement-of .ensures .1) (in-cell v .1) (e .before .before .standing-in .ensures .1)))) (refl, refl))
 
 sides-of-requires : tie.Need-sides-of-requires
@@ -221,7 +221,7 @@ returns-4 c =
     let a = st .args in
     let i = found h .before .before .index-of .ensures in
     subst (TellsQuotation (image st) (asks st)) (sym (c .no-quotation2 .ensures))
-    (refuses (image st) (asks st) _ _ (is (begin h)) _ _ (λ from. quote-in (image st) (a .code) (index h) (i .0) (i .1) from (a .desk) (a .region) (a .method) (now (a .months))) _ (sym (checks h) ∙ c .before .before .checked .given .1)
+    (refuses (image st) (asks st) _ _ (is (seen h)) _ _ (λ from. quote-in (image st) (a .code) (index h) (i .0) (i .1) from (a .desk) (a .region) (a .method) (now (a .months))) _ (sym (checks h) ∙ c .before .before .checked .given .1)
     (quote-numbered (a .desk) (a .code) (place h) (flagOf (word (image st) loadedAt)) (word (image st) monthsAt) (a .region) (a .method) (now (a .months))) (refl, refl))
 
 returns-5 : tie.Need-returns-5
@@ -233,7 +233,7 @@ returns-5 c =
     let st = start h in
     let a = st .args in
     let i = found h .before .before .index-of .ensures in
-    gives (image st) (asks st) _ _ (is (begin h)) _ _ (λ from. quote-in (image st) (a .code) (index h) (i .0) (i .1) from (a .desk) (a .region) (a .method) (now (a .months))) (sym (checks h) ∙ v .before .before .enum-told .given .1)
+    gives (image st) (asks st) _ _ (is (seen h)) _ _ (λ from. quote-in (image st) (a .code) (index h) (i .0) (i .1) from (a .desk) (a .region) (a .method) (now (a .months))) (sym (checks h) ∙ v .before .before .enum-told .given .1)
     (λ from. sides (now (a .months)) _ _ _ _ _ _ (c .sides-of .ensures .0) (c .sides-of .ensures .1)
     (numbers-are e ∙ ap (λ f. tariffNumbers f (tariffIn (place h)) (cell (a .region) (a .method))) (figures-told (image st) from (loaded-in (image st) ∙ passed v .loaded))) (tariff-is x))
 

@@ -51,7 +51,7 @@ fn judged(p: Place, figures: Benchmarks) -> Place
 }
 
 // All places under the figures of a new sheet.
-fn all_judged(places: [Place; 32], figures: Benchmarks) -> [Place; 32]
+pub fn all_judged(places: [Place; 32], figures: Benchmarks) -> [Place; 32]
     requires { ⌜ Lawful figures × ((i : ℕ) → i < 32 → HoldsValid (getD places i beyond)) ⌝ }
     ensures { λ r. ⌜ r ≡ map (under figures) places ⌝ }
 {
@@ -109,7 +109,7 @@ pub fn judge(places: [Place; 32], fields: &[u32], period: Period) -> Judgement
 }
 
 // The state of each place.
-fn states_of(places: [Place; 32]) -> [Stood; 32]
+pub fn states_of(places: [Place; 32]) -> [Stood; 32]
     ensures { λ r. ⌜ r ≡ map (λ p. stoodAs (p .state)) places ⌝ }
 {
     let mut states = [Stood {

@@ -30,6 +30,13 @@ use Rattle.stands.proofs.Kept.{reachable-fits}
 pub recorded-valid : (x : Tariff) → Recorded x → validTariff x ≡ true
 recorded-valid x r = ap validTariff (r .2) ∙ record-valid (r .0) (r .1)
 
+-- so what may stand in a place is nothing or a valid tariff
+pub holds : (s : Option Sheet) (q : State) (p : Place) → MayStandAs s q p → HoldsValidAs q (tariffIn p)
+holds s Empty p f = tt
+holds s Draft p f = recorded-valid (tariffIn p) f
+holds s Marked p f = recorded-valid (tariffIn p) (f .0)
+holds s Open p f = recorded-valid (tariffIn p) (f .0)
+
 module _ (b : Book) (from : Reachable b) where
   module _ (loaded : b .loaded ≡ true) where
     pub figures-are : b .benchmarks ≡ figuresOf (sheetIn b)
@@ -40,12 +47,6 @@ module _ (b : Book) (from : Reachable b) where
 
     pub figures-lawful : Lawful (b .benchmarks)
     figures-lawful = subst Lawful (sym figures-are) (lawful (b .fields) (b .period) sheet-passed)
-
-  holds : (s : Option Sheet) (q : State) (p : Place) → MayStandAs s q p → HoldsValidAs q (tariffIn p)
-  holds s Empty p f = tt
-  holds s Draft p f = recorded-valid (tariffIn p) f
-  holds s Marked p f = recorded-valid (tariffIn p) (f .0)
-  holds s Open p f = recorded-valid (tariffIn p) (f .0)
 
   pub holds-at : (i : ℕ) → i < 32 → HoldsValid (getD (b .places) i beyond)
   holds-at i h =

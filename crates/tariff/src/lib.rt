@@ -156,7 +156,7 @@ pub fn standing_in(x: Tariff, region: u32) -> u32
 }
 
 // Whether the numbers of a record are such as the papers allow.
-fn is_valid(x: Tariff) -> bool
+pub fn is_valid(x: Tariff) -> bool
     ensures { λ r. ⌜ r ≡ validTariff x ⌝ }
 {
     let rates = x.rates;

@@ -12,8 +12,10 @@ use Rattle.sheet.specs.Sheet.{fieldCount, signed, valueOf, rangeOf, fieldInRang
 use Rattle.benchmark.specs.declared.Benchmarks.{Benchmarks}
 use Rattle.benchmark.specs.Benchmark.{benchmarksOf, setCheck}
 use Rattle.figures.specs.Working.{workedIf}
+use Rattle.book.specs.declared.Place.{Place}
+use Rattle.book.specs.declared.Kept.{Kept}
 use Rattle.book.specs.declared.Book.{Book}
-use Rattle.book.specs.Book.{noPeriod, sheetIf, sheetIn, figuresIf}
+use Rattle.book.specs.Book.{noPeriod, nothingKept, sheetIf, sheetIn, figuresIf, restored}
 use Rattle.stands.specs.Stands.{Fits}
 
 abbrev worked : List ℕ → Period → Benchmarks
@@ -32,3 +34,17 @@ figures-worked b h = go (b .loaded) refl
     go false e =
         let w = h .without-sheet e in
         ap₂ worked (w .0) (w .1) ∙ ap (λ c. workedIf c (benchmarksOf (replicate fieldCount 0) noPeriod)) zeros-refused
+
+-- the book that is kept with those figures: the book that UNDO brings back, where either stands
+abbrev made : Book → Benchmarks → List Place → Kept → Book
+made b figures places kept =
+    record { loaded = b .kept .loaded; fields = b .kept .fields; period = b .kept .period; benchmarks = figures; places = places; kept = kept }
+
+module _ (b : Book) (figures : Benchmarks) (places : List Place) (kept : Kept) where
+  pub brought-back : figures ≡ worked (b .kept .fields) (b .kept .period) → places ≡ restored b .places → kept ≡ nothingKept
+      → (Fits (restored b) → made b figures places kept ≡ restored b) × (Fits (made b figures places kept) → made b figures places kept ≡ restored b)
+  brought-back f p k = (λ fits. whole (figures-worked (restored b) fits), λ fits. whole (figures-worked (made b figures places kept) fits))
+    where
+      whole : worked (b .kept .fields) (b .kept .period) ≡ restored b .benchmarks → made b figures places kept ≡ restored b
+      whole h i =
+          record { loaded = b .kept .loaded; fields = b .kept .fields; period = b .kept .period; benchmarks = (f ∙ h) i; places = p i; kept = k i }

@@ -7,8 +7,9 @@ ghost use mathlib.Core.List.{zipWith};
 ghost use Rattle.refusal.specs.declared.Check.the-variants.{Pass};
 ghost use Rattle.refusal.specs.Checks.{unless};
 ghost use Rattle.book.specs.Calls.{UNDO, by, call};
-ghost use Rattle.book.specs.Book.{withState, Reachable};
+ghost use Rattle.book.specs.Book.{withState, restored, Reachable};
 ghost use Rattle.book.specs.Promises.{Does};
+ghost use Rattle.stands.specs.Stands.{Fits};
 use book::Book;
 use book::Done;
 use book::Place;
@@ -38,8 +39,30 @@ fn in_states(places: [Place; 32], states: [Stood; 32]) -> [Place; 32]
     next
 }
 
-// UNDO of a desk with all fourteen regions. 15. Else the sheet is the one before, or none, and each place is in the state that it had. The figures are worked out again; a
+// The book that is kept: the sheet is the one before, or none, and each place is in the state that it had. The figures are worked out again; a
 // book without a sheet has zeros for one, which SET's checks refuse, and so no figures.
+pub fn book_before(b: Book) -> Book
+    ensures { λ r. ⌜ (Fits (restored b) → r ≡ restored b) × (Fits r → r ≡ restored b) ⌝ }
+{
+    let kept = b.kept;
+    let fields = kept.fields;
+    let period = kept.period;
+    let worked = figures::work_out(&fields, period);
+    let figures = worked.benchmarks;
+    let now = b.places;
+    let states = kept.states;
+    let places = in_states(now, states);
+    Book {
+        loaded: kept.loaded,
+        fields,
+        period,
+        benchmarks: figures,
+        places,
+        kept: book::nothing_kept(),
+    }
+}
+
+// UNDO of a desk with all fourteen regions. 15. Else the book that is kept.
 fn take_back(b: Book) -> Done
     requires { ⌜ Reachable b ⌝ }
     ensures { λ r. ⌜ Does b (call UNDO) r ⌝ }
@@ -49,22 +72,7 @@ fn take_back(b: Book) -> Done
     let Check::Pass = check else {
         return book::answered(check, b);
     };
-    let fields = kept.fields;
-    let period = kept.period;
-    let worked = figures::work_out(&fields, period);
-    let figures = worked.benchmarks;
-    let before = b.places;
-    let states = kept.states;
-    let places = in_states(before, states);
-    let next = Book {
-        loaded: kept.loaded,
-        fields,
-        period,
-        benchmarks: figures,
-        places,
-        kept: book::nothing_kept(),
-    };
-    book::answered(check, next)
+    book::answered(check, book_before(b))
 }
 
 // UNDO. 17, and then as above.

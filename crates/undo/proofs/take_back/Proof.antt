@@ -1,5 +1,4 @@
--- `undo::take_back` meets its contract: 15, or the book restored. What is kept of a reachable book is one that stands, so the figures worked out
--- are those of its sheet.
+-- `undo::take_back` meets its contract: 15, or the book restored, since what is kept of a reachable book is one that stands.
 -- Assumes nothing.
 use mathlib.Core.Path.{_≡_, refl, sym, _∙_}
 use mathlib.Core.Bool.{Bool, true, false}
@@ -7,10 +6,8 @@ use Rattle.refusal.specs.declared.Check.the-variants.{Pass}
 use Rattle.refusal.specs.Checks.{unless, checked, need}
 use Rattle.refusal.proofs.Checks.{unless-passes}
 use Rattle.book.specs.Calls.{UNDO, call, accepted, refused}
-use Rattle.book.specs.Book.{restored}
 use Rattle.book.proofs.Steps.{refuses, accepts}
 use Rattle.stands.proofs.Kept.{reachable-stands}
-use Rattle.undo.proofs.Figures.{figures-worked}
 use borrow.Author.Needs.{needs}
 use Rattle.undo.proofs.take_back.Statement.{statement}
 use Rattle.undo.proofs.take_back.Tie as tie
@@ -38,17 +35,8 @@ returns c =
     let b = k .before .before .args .b in
     rw (c .answered .ensures) (refuses b (call UNDO) (unless (b .kept .any) 15 Pass) (undo-table (b .kept .any)) _ _ (k .kept-check .ensures) (c .before .enum-told2 .given .1))
 
-slice-aggregate-work-out : tie.Need-slice-aggregate-work-out
-slice-aggregate-work-out c = search needs
-
-work-out-requires : tie.Need-work-out-requires
-work-out-requires c κs = search needs
-
-in-states-requires : tie.Need-in-states-requires
-in-states-requires c κs = search needs
-
-nothing-kept-requires : tie.Need-nothing-kept-requires
-nothing-kept-requires c κs = search needs
+book-before-requires : tie.Need-book-before-requires
+book-before-requires c κs = search needs
 
 answered-requires-2 : tie.Need-answered-requires-2
 answered-requires-2 c κs = search needs
@@ -56,9 +44,7 @@ answered-requires-2 c κs = search needs
 returns-2 : tie.Need-returns-2
 returns-2 c =
     let n = c .before in
-    let p = n .before in
-    let w = p .before .before .before .before in
-    let told = w .before .before .before .before in
+    let told = n .before in
     let k = told .before .before in
     let st = k .before .before in
     let b = st .args .b in
@@ -66,8 +52,7 @@ returns-2 c =
     let any = unless-passes (b .kept .any) 15 Pass (sym (k .kept-check .ensures) ∙ passes) .0 in
     let fits = reachable-stands b (st .pre) .step-kept any .0 in
     rw (c .answered2 .ensures)
-    (accepts b (call UNDO) (unless (b .kept .any) 15 Pass) (undo-table (b .kept .any)) _ (k .kept-check .ensures) passes _
-    (λ i. record { loaded = b .kept .loaded; fields = b .kept .fields; period = b .kept .period; benchmarks = (w .work-out .ensures .1 ∙ figures-worked (restored b) fits) i; places = p .in-states .ensures i; kept = n .nothing-kept .ensures i }))
+    (accepts b (call UNDO) (unless (b .kept .any) 15 Pass) (undo-table (b .kept .any)) _ (k .kept-check .ensures) passes _ (n .book-before .ensures .0 fits))
 
 pub take-back-spec : {M : Type 1} → statement M
 take-back-spec =
@@ -78,9 +63,6 @@ take-back-spec =
     enum-told-2
     answered-requires
     returns
-    slice-aggregate-work-out
-    work-out-requires
-    in-states-requires
-    nothing-kept-requires
+    book-before-requires
     answered-requires-2
     returns-2)

@@ -26,6 +26,7 @@ use refusal::Check;
 pub const PLACES_MOST: usize = 1_000_000;
 
 // An account: the number of months says how many of the twelve places for them are used.
+#[repr(C)]
 pub struct Account {
     pub code: u32,
     pub region: u32,

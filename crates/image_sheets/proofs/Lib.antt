@@ -1,0 +1,4 @@
+pub mod States
+pub mod Parts
+pub mod Back
+pub mod Calls

@@ -5,7 +5,6 @@ use mathlib.Core.Bool.{Bool, true, false, not, _&&_}
 use mathlib.Core.List.{List}
 use Prim.Native.Nat.{ℕ}
 use lib.Dec.{eqb}
-use lib.ListN.{length}
 use Rattle.laws.proofs.Never.{never}
 use Rattle.refusal.specs.declared.Check.{Check}
 use Rattle.refusal.specs.declared.Check.the-variants.{Pass, Refuse}
@@ -13,11 +12,11 @@ use Rattle.refusal.specs.Checks.{unless, checked, need}
 use Rattle.desks.specs.Desks.{isFull}
 use Rattle.book.specs.Calls.{Call, Answer, accepted, refused}
 use Rattle.book.specs.Checks.{answer}
-use Rattle.book.specs.Book.{bookReadings, changed, Reachable}
+use Rattle.book.specs.Book.{bookReadings, changed}
 use Rattle.book.proofs.Steps.{answered-by, unchanged, made}
 use Rattle.book.proofs.Desks.{not-full}
 use Rattle.image.specs.Layout.{wordCount, mark}
-use Rattle.image.specs.Image.{word, bookIn, isImage}
+use Rattle.image.specs.Image.{bookIn, isImage}
 use Rattle.image.specs.Changing.{noBook, numberOf, Changes}
 use Rattle.image_sheets.specs.Stages.{Leaves}
 
@@ -25,6 +24,10 @@ use Rattle.image_sheets.specs.Stages.{Leaves}
 pub fails : (t u : Bool) → t ≡ u → not t ≡ true → u ≡ false
 fails true u e h = never (cc)
 fails false u e h = sym e
+
+pub not-both : (t : Bool) → not t ≡ true → t ≡ true → ⊥
+not-both true h e = never (cc)
+not-both false h e = never (cc)
 
 pub holds : (t u : Bool) → t ≡ u → not t ≡ false → u ≡ true
 holds true u e h = sym e

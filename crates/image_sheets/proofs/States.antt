@@ -1,21 +1,21 @@
 -- The states of the places, which a loop writes, one place a turn; and the places after it.
 -- Assumes nothing.
-use mathlib.Core.Path.{_≡_, refl, sym, _∙_, ap₂, subst}
-use mathlib.Core.List.{List, map, zipWith}
-use mathlib.Core.Logic.{_≢_}
+use mathlib.Core.Path.{_≡_, refl, sym, _∙_, ap₂}
+use mathlib.Core.List.{List, zipWith}
 use Prim.Native.Nat.{ℕ, _+_, _≤_, _<_}
 use native.Mathlib.Decide.{decLe}
 use native.Mathlib.Omega.{arith}
 use lib.ListN.{length, getD, set, length-set, length-map, List·getD-map}
 use lib.Seq.{getD-set-same, getD-set-other}
 use Rattle.laws.proofs.Filled.{zip-filled}
-use Rattle.book.specs.declared.State.the-variants.{Empty}
+use Rattle.book.specs.declared.State.{State}
+use Rattle.book.specs.declared.State.the-variants.{Empty, Draft, Marked, Open}
 use Rattle.book.specs.declared.Stood.{Stood}
 use Rattle.book.specs.Book.{beyond, stoodAs, withState}
 use Rattle.image.specs.Layout.{keptStatesAt, placesAt, placeWords, startOf}
-use Rattle.image.specs.Image.{word, words, stateOf, placeAt, placesIn, statesIn}
+use Rattle.image.specs.Image.{word, words, stateNumber, stateOf, placeAt, placesIn, statesIn}
 use Rattle.image.proofs.Reading.{words-alike, length-words, word-at}
-use Rattle.image.proofs.Places.{length-places, place-there}
+use Rattle.image.proofs.Places.{length-places, place-there, place-alike}
 use Rattle.image_sheets.specs.Stages.{StatesWritten}
 
 pub states-none : (l : List ℕ) (x : ℕ → ℕ) → StatesWritten l l 0 x
@@ -45,6 +45,27 @@ states-apart w j h = w .outside j (λ i g e. omega arith)
 pub state-apart : {l m : List ℕ} {n : ℕ} {x : ℕ → ℕ} → StatesWritten l m n x → (i j : ℕ) → startOf i < j → j < startOf i + placeWords
     → word m j ≡ word l j
 state-apart w i j g h = w .outside j (λ k q e. omega arith)
+
+-- the places that the loop has not come to
+pub place-ahead : {l m : List ℕ} {n : ℕ} {x : ℕ → ℕ} → StatesWritten l m n x → (i : ℕ) → n ≤ i → placeAt m (startOf i) ≡ placeAt l (startOf i)
+place-ahead w i h = place-alike _ _ (startOf i) (λ j g q. w .outside j (λ k o e. omega arith))
+
+-- the state of a place is that of its first word, and a state is read as it was written
+pub place-state : (l : List ℕ) (at : ℕ) → placeAt l at .state ≡ stateOf (word l at)
+unfolding placeAt
+place-state l at = refl
+
+pub state-back : (q : State) → stateOf (stateNumber q) ≡ q
+state-back Empty = refl
+state-back Draft = refl
+state-back Marked = refl
+state-back Open = refl
+
+pub state-most : (q : State) → stateNumber q ≤ 3
+state-most Empty = omega arith
+state-most Draft = omega arith
+state-most Marked = omega arith
+state-most Open = omega arith
 
 -- a place with another state and the same words behind it
 pub place-in-state : (l m : List ℕ) (at v : ℕ) → word m at ≡ v → ((j : ℕ) → at < j → j < at + placeWords → word m j ≡ word l j)

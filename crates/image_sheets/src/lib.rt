@@ -1,18 +1,31 @@
 // SET, UNDO and TRIAL on an image, in place: no copy of the book is made.
-// Promise: `undo` promises `Changes` of the image's definitions for UNDO, on any words.
+// Promise: `set` and `undo` promise `Changes` of the image's definitions, on any words, and `trial` tells what the trial of that book tells
+// (specs/Telling.antt) and writes nothing. Nothing is written before all is tested: that the words are an image, the desk, the sheet, and that
+// each place holds nothing or a valid tariff, which judging needs and no list of calls promises of any words.
 ghost use mathlib.Core.Path.{_≡_};
 ghost use mathlib.Core.Bool.{true};
-ghost use Prim.Native.Nat.{_+_};
+ghost use mathlib.Core.List.{map};
+ghost use mathlib.Core.Logic.{_≢_};
+ghost use Prim.Native.Nat.{ℕ, _+_};
 ghost use lib.ListN.{length};
+ghost use Rattle.refusal.specs.declared.Check.the-variants.{Pass, Refuse};
 ghost use Rattle.refusal.specs.Checks.{checked};
-ghost use Rattle.book.specs.Calls.{UNDO, by, accepted, refused};
-ghost use Rattle.book.specs.Book.{restored};
-ghost use Rattle.image.specs.Layout.{wordCount, keptStatesAt};
-ghost use Rattle.image.specs.Image.{word, bookIn};
-ghost use Rattle.image.specs.Changing.{numberOf, Changes};
-ghost use Rattle.image_sheets.specs.Stages.{StatesWritten, FiguresWritten, Leaves};
+ghost use Rattle.sheet.specs.Sheet.{fieldCount};
+ghost use Rattle.benchmark.specs.Benchmark.{benchmarksOf, setCheck};
+ghost use Rattle.benchmark.specs.Lawful.{Lawful};
+ghost use Rattle.book.specs.Calls.{SET, UNDO, sheetAt, by, accepted, refused};
+ghost use Rattle.book.specs.Book.{under, restored, changed};
+ghost use Rattle.trial.specs.Trial.{codesWhere};
+ghost use Rattle.trial.specs.Places.{fellFrom};
+ghost use Rattle.image.specs.Layout.{wordCount, keptStatesAt, startOf};
+ghost use Rattle.image.specs.Image.{word, stateNumber, placeAt, placesIn, bookIn};
+ghost use Rattle.image.specs.Changing.{Written, numberOf, Changes};
+ghost use Rattle.image_sheets.specs.Stages.{AllValid, Refuses, StatesWritten, FiguresWritten, SheetWritten, StepKept, Leaves};
+ghost use Rattle.image_sheets.specs.Telling.{Tells};
 use benchmark::Benchmarks;
+use calendar::Period;
 use image::CHARGES_AT;
+use image::FIELDS_AT;
 use image::KEPT_AT;
 use image::KEPT_FIELDS_AT;
 use image::KEPT_LOADED_AT;
@@ -23,6 +36,7 @@ use image::LEVELS_AT;
 use image::LOADED_AT;
 use image::NO_BOOK;
 use image::PEAK_AT;
+use image::PERIOD_AT;
 use refusal::Check;
 
 // The number of a check: 0, or that of its refusal.
@@ -33,6 +47,43 @@ fn number_of_check(check: Check) -> u32
         Check::Pass => 0,
         Check::Refuse(n) => n,
     }
+}
+
+// Whether every place holds nothing or a valid tariff.
+fn all_valid(image: &[u32]) -> bool
+    requires { ⌜ length (now image) ≡ wordCount ⌝ }
+    ensures { λ r. ⌜ (r ≡ true → AllValid (now (image .entry))) × (AllValid (now (image .entry)) → r ≡ true) ⌝ }
+{
+    let mut i: usize = 0;
+    while i < 32 {
+        let at = image::start_of(i);
+        if !image_tests::holds_valid(image, at) {
+            return false;
+        }
+        i += 1;
+    }
+    true
+}
+
+// What SET and TRIAL refuse, where that is the answer of a sheet's own checks: what is no image; 17; 1 to 4, 14, 5; what is no book.
+fn refusal_of(image: &[u32], desk: u32, check: Check) -> u32
+    requires { ⌜ ((n : ℕ) → check ≡ Refuse n → n ≢ 0) ⌝ }
+    ensures { λ r. ⌜ Refuses (now (image .entry)) desk check r ⌝ }
+{
+    if !image::is_image(image) {
+        return NO_BOOK;
+    }
+    let full = desks::full_check(desk);
+    let Check::Pass = full else {
+        return number_of_check(full);
+    };
+    let Check::Pass = check else {
+        return number_of_check(check);
+    };
+    if !all_valid(image) {
+        return NO_BOOK;
+    }
+    0
 }
 
 // The figures of a sheet, written.
@@ -46,6 +97,82 @@ fn write_figures(image: &mut [u32], figures: Benchmarks)
     image::write(image, LEVELS_AT, &levels);
     let rest = [figures.peak, figures.months, figures.days];
     image::write(image, PEAK_AT, &rest);
+}
+
+// A sheet and its figures, written as the one in force.
+fn write_sheet(image: &mut [u32], fields: &[u32], period: Period, figures: Benchmarks)
+    requires { ⌜ (length (now image) ≡ wordCount) × (length (now fields) ≡ fieldCount) ⌝ }
+    ensures { λ _. ⌜ SheetWritten (now (image .entry)) (now (image .exit)) (sheetAt (now (fields .entry)) period) figures ⌝ }
+{
+    image[LOADED_AT] = 1;
+    image::write(image, FIELDS_AT, fields);
+    let words = [period.year, period.month, period.months];
+    image::write(image, PERIOD_AT, &words);
+    write_figures(image, figures);
+}
+
+// The state of each place, kept.
+fn keep_states(image: &mut [u32])
+    requires { ⌜ length (now image) ≡ wordCount ⌝ }
+    ensures { λ _. ⌜ Written (now (image .entry)) (now (image .exit)) keptStatesAt 32 (λ i. word (now (image .entry)) (startOf i)) ⌝ }
+{
+    let mut i: usize = 0;
+    while i < 32 {
+        let at = image::start_of(i);
+        image[KEPT_STATES_AT + i] = image[at];
+        i += 1;
+    }
+}
+
+// What UNDO takes back: the sheet in force, or none, and the state of each place.
+fn keep(image: &mut [u32])
+    requires { ⌜ length (now image) ≡ wordCount ⌝ }
+    ensures { λ _. ⌜ StepKept (now (image .entry)) (now (image .exit)) ⌝ }
+{
+    image[KEPT_AT] = 1;
+    image::copy(image, LOADED_AT, KEPT_LOADED_AT, 100);
+    keep_states(image);
+}
+
+// Each place under the figures of a new sheet.
+fn judge_places(image: &mut [u32], figures: Benchmarks)
+    requires { ⌜ (length (now image) ≡ wordCount) × Lawful figures × AllValid (now image) ⌝ }
+    ensures { λ _. ⌜ StatesWritten (now (image .entry)) (now (image .exit)) 32 (λ i. stateNumber (under figures (placeAt (now (image .entry)) (startOf i)) .state)) ⌝ }
+{
+    let mut i: usize = 0;
+    while i < 32 {
+        let at = image::start_of(i);
+        let p = image::place_at(image, at);
+        let next = setting::judged(p, figures);
+        let state = next.state;
+        image[at] = image::state_number(state);
+        i += 1;
+    }
+}
+
+// SET, where nothing is refused: the step is kept, every place judged, and the sheet replaced.
+fn put_in_force(image: &mut [u32], fields: &[u32], period: Period, figures: Benchmarks)
+    requires { ⌜ (length (now image) ≡ wordCount) × (setCheck (now fields) period ≡ Pass) × (figures ≡ benchmarksOf (now fields) period) × AllValid (now image) ⌝ }
+    ensures { λ _. ⌜ Leaves (now (image .entry)) (now (image .exit)) (changed (bookIn (now (image .entry))) (SET (sheetAt (now (fields .entry)) period))) ⌝ }
+{
+    keep(image);
+    judge_places(image, figures);
+    write_sheet(image, fields, period, figures);
+}
+
+// SET (sheet, period).
+pub fn set(image: &mut [u32], desk: u32, fields: &[u32], period: Period) -> u32
+    ensures { λ r. ⌜ Changes (by desk (SET (sheetAt (now (fields .entry)) period))) (now (image .entry)) r (now (image .exit)) ⌝ }
+{
+    let worked = figures::work_out(fields, period);
+    let check = worked.check;
+    let refusal = refusal_of(image, desk, check);
+    if refusal != 0 {
+        return refusal;
+    }
+    let figures = worked.benchmarks;
+    put_in_force(image, fields, period, figures);
+    0
 }
 
 // Each place in the state that is kept of it.
@@ -92,4 +219,47 @@ pub fn undo(image: &mut [u32], desk: u32) -> u32
     }
     take_back(image);
     0
+}
+
+// What TRIAL answers: a refusal, or 0 and the set of the codes that would become drafts.
+#[repr(C)]
+pub struct Falling {
+    pub refusal: u32,
+    pub codes: u32,
+}
+
+// The codes whose tariffs a sheet with these figures would make drafts: bit code - 1 of each.
+fn fallen(image: &[u32], figures: Benchmarks) -> u32
+    requires { ⌜ (length (now image) ≡ wordCount) × Lawful figures × AllValid (now image) ⌝ }
+    ensures { λ r. ⌜ r ≡ codesWhere (fellFrom (placesIn (now (image .entry))) (map (under figures) (placesIn (now (image .entry))))) ⌝ }
+{
+    let mut codes: u64 = 0;
+    let mut bit: u64 = 1;
+    let mut i: usize = 0;
+    while i < 32 {
+        let at = image::start_of(i);
+        let p = image::place_at(image, at);
+        let q = setting::judged(p, figures);
+        codes += trial::bit_if_fell(p, q, bit);
+        bit *= 2;
+        i += 1;
+    }
+    codes as u32
+}
+
+// TRIAL (sheet, period).
+pub fn trial(image: &[u32], desk: u32, fields: &[u32], period: Period) -> Falling
+    ensures { λ r. ⌜ Tells (now (image .entry)) desk (sheetAt (now (fields .entry)) period) r ⌝ }
+{
+    let worked = figures::work_out(fields, period);
+    let check = worked.check;
+    let refusal = refusal_of(image, desk, check);
+    if refusal != 0 {
+        return Falling { refusal, codes: 0 };
+    }
+    let figures = worked.benchmarks;
+    Falling {
+        refusal: 0,
+        codes: fallen(image, figures),
+    }
 }

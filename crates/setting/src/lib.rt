@@ -28,7 +28,7 @@ use verdict::Found;
 
 // A place under the figures of a new sheet: a mark is cleared, and an open tariff that exceeds somewhere becomes a draft, unless it is
 // under a direction.
-fn judged(p: Place, figures: Benchmarks) -> Place
+pub fn judged(p: Place, figures: Benchmarks) -> Place
     requires { ⌜ Lawful figures × HoldsValid p ⌝ }
     ensures { λ r. ⌜ r ≡ under figures p ⌝ }
 {

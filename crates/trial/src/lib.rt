@@ -18,7 +18,7 @@ use queries::Told;
 use refusal::Check;
 
 // The bit of a code whose tariff was open and is a draft; 0 for every other.
-fn bit_if_fell(before: Place, after: Place, bit: u64) -> u64
+pub fn bit_if_fell(before: Place, after: Place, bit: u64) -> u64
     ensures { λ r. ⌜ r ≡ cond (fell before after) bit 0 ⌝ }
 {
     let was = before.state;

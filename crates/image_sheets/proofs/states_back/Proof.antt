@@ -1,6 +1,6 @@
 -- `image_sheets::states_back` meets its contract.
 -- Assumes nothing.
-use mathlib.Core.Path.{_≡_, refl}
+use mathlib.Core.Path.{_≡_}
 use Prim.Native.Nat.{_+_, _-_, _≤_}
 use native.Mathlib.Omega.{arith}
 use Rattle.image.specs.Layout.{keptStatesAt}
@@ -10,9 +10,6 @@ use Rattle.image_sheets.proofs.States.{states-none, states-more, states
 use borrow.Author.Needs.{needs}
 use Rattle.image_sheets.proofs.states_back.Statement.{statement}
 use Rattle.image_sheets.proofs.states_back.Tie as tie
-use Rattle.image_sheets.proofs.states_back.Reads as reads
-use Rattle.image_sheets.proofs.states_back.Lts as lts
-use Rattle.image.proofs.start_of.Reads as start-of-reads
 
 abbrev Inv-loop : tie.InvT-loop
 Inv-loop image₀ i₀ image i = (i ≤ 32) × StatesWritten image₀ image i (λ k. word image₀ (keptStatesAt + k))

@@ -13,14 +13,6 @@ use Rattle.image_sheets.proofs.Back.{taken-back}
 use borrow.Author.Needs.{needs}
 use Rattle.image_sheets.proofs.take_back.Statement.{statement}
 use Rattle.image_sheets.proofs.take_back.Tie as tie
-use Rattle.image_sheets.proofs.take_back.Reads as reads
-use Rattle.image_sheets.proofs.take_back.Lts as lts
-use Rattle.figures.proofs.work_out.Reads as work-out-reads
-use Rattle.image.proofs.clear.Reads as clear-reads
-use Rattle.image.proofs.copy.Reads as copy-reads
-use Rattle.image.proofs.period_at.Reads as period-at-reads
-use Rattle.image_sheets.proofs.states_back.Reads as states-back-reads
-use Rattle.image_sheets.proofs.write_figures.Reads as write-figures-reads
 
 period-at-requires : tie.Need-period-at-requires
 period-at-requires c κs = search needs

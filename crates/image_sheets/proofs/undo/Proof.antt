@@ -15,12 +15,6 @@ use Rattle.image_sheets.proofs.Back.{kept-flag, undo-answer}
 use borrow.Author.Needs.{needs}
 use Rattle.image_sheets.proofs.undo.Statement.{statement}
 use Rattle.image_sheets.proofs.undo.Tie as tie
-use Rattle.image_sheets.proofs.undo.Reads as reads
-use Rattle.image_sheets.proofs.undo.Lts as lts
-use Rattle.desks.proofs.full_check.Reads as full-check-reads
-use Rattle.image.proofs.is_image.Reads as is-image-reads
-use Rattle.image_sheets.proofs.number_of_check.Reads as number-of-check-reads
-use Rattle.image_sheets.proofs.take_back.Reads as take-back-reads
 
 -- past the first test the words are an image; past the second the desk has all fourteen regions
 is-one : (c : tie.Else1) → isImage (c .before .before .before .before .args .image .now) ≡ true

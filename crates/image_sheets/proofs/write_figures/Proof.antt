@@ -7,9 +7,6 @@ use Rattle.image_sheets.proofs.Parts.{figures-written}
 use borrow.Author.Needs.{needs}
 use Rattle.image_sheets.proofs.write_figures.Statement.{statement}
 use Rattle.image_sheets.proofs.write_figures.Tie as tie
-use Rattle.image_sheets.proofs.write_figures.Reads as reads
-use Rattle.image_sheets.proofs.write_figures.Lts as lts
-use Rattle.image.proofs.write.Reads as write-reads
 
 charges-size : (c : tie.After-charges2) → length (c .before .before .before .before .args .figures .charges) ≡ 112
 charges-size c = search needs

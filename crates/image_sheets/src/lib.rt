@@ -54,13 +54,13 @@ fn all_valid(image: &[u32]) -> bool
     requires { ⌜ length (now image) ≡ wordCount ⌝ }
     ensures { λ r. ⌜ (r ≡ true → AllValid (now (image .entry))) × (AllValid (now (image .entry)) → r ≡ true) ⌝ }
 {
-    let mut i: usize = 0;
-    while i < 32 {
-        let at = image::start_of(i);
+    let mut tested: usize = 0;
+    while tested < 32 {
+        let at = image::start_of(tested);
         if !image_tests::holds_valid(image, at) {
             return false;
         }
-        i += 1;
+        tested += 1;
     }
     true
 }
@@ -116,11 +116,11 @@ fn keep_states(image: &mut [u32])
     requires { ⌜ length (now image) ≡ wordCount ⌝ }
     ensures { λ _. ⌜ Written (now (image .entry)) (now (image .exit)) keptStatesAt 32 (λ i. word (now (image .entry)) (startOf i)) ⌝ }
 {
-    let mut i: usize = 0;
-    while i < 32 {
-        let at = image::start_of(i);
-        image[KEPT_STATES_AT + i] = image[at];
-        i += 1;
+    let mut kept: usize = 0;
+    while kept < 32 {
+        let at = image::start_of(kept);
+        image[KEPT_STATES_AT + kept] = image[at];
+        kept += 1;
     }
 }
 
@@ -139,14 +139,14 @@ fn judge_places(image: &mut [u32], figures: Benchmarks)
     requires { ⌜ (length (now image) ≡ wordCount) × Lawful figures × AllValid (now image) ⌝ }
     ensures { λ _. ⌜ StatesWritten (now (image .entry)) (now (image .exit)) 32 (λ i. stateNumber (under figures (placeAt (now (image .entry)) (startOf i)) .state)) ⌝ }
 {
-    let mut i: usize = 0;
-    while i < 32 {
-        let at = image::start_of(i);
+    let mut done: usize = 0;
+    while done < 32 {
+        let at = image::start_of(done);
         let p = image::place_at(image, at);
         let next = setting::judged(p, figures);
         let state = next.state;
         image[at] = image::state_number(state);
-        i += 1;
+        done += 1;
     }
 }
 
@@ -180,11 +180,11 @@ fn states_back(image: &mut [u32])
     requires { ⌜ length (now image) ≡ wordCount ⌝ }
     ensures { λ _. ⌜ StatesWritten (now (image .entry)) (now (image .exit)) 32 (λ i. word (now (image .entry)) (keptStatesAt + i)) ⌝ }
 {
-    let mut i: usize = 0;
-    while i < 32 {
-        let at = image::start_of(i);
-        image[at] = image[KEPT_STATES_AT + i];
-        i += 1;
+    let mut back: usize = 0;
+    while back < 32 {
+        let at = image::start_of(back);
+        image[at] = image[KEPT_STATES_AT + back];
+        back += 1;
     }
 }
 

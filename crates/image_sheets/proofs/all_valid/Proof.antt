@@ -1,4 +1,4 @@
--- `image_sheets::all_valid` meets its contract.
+-- `image_sheets::all_valid` meets its contract. The invariant: the places passed do.
 -- Assumes nothing.
 use mathlib.Core.Path.{refl, sym, subst}
 use Prim.Native.Nat.{ℕ, _-_, _≤_, _<_}
@@ -14,10 +14,10 @@ use Rattle.image_sheets.proofs.all_valid.Statement.{statement}
 use Rattle.image_sheets.proofs.all_valid.Tie as tie
 
 abbrev Inv-loop : tie.InvT-loop
-Inv-loop image i₀ i = (i ≤ 32) × ((j : ℕ) → j < i → HoldsValid (placeAt image (startOf j)))
+Inv-loop image tested₀ tested = (tested ≤ 32) × ((j : ℕ) → j < tested → HoldsValid (placeAt image (startOf j)))
 
 abbrev μ-loop : tie.MeasureT-loop
-μ-loop image i₀ i = 32 - i
+μ-loop image tested₀ tested = 32 - tested
 
 loop-holds : tie.Need-loop-holds Inv-loop μ-loop
 loop-holds c = (omega arith, λ j h. absurd (omega arith))
@@ -34,11 +34,11 @@ returns c =
     let lp = h .before .before .before .loop in
     let l = h .before .before .before .before .before .args .image .now in (
       λ e. never (cc),
-      λ v. absurd (not-both _ (c .if1 .taken) (h .holds-valid .ensures .1 (subst (λ n. HoldsValid (placeAt l n)) (sym (h .before .start-of .ensures .0)) (v (lp .i) (h .before .before .loop-test .taken))))),
+      λ v. absurd (not-both _ (c .if1 .taken) (h .holds-valid .ensures .1 (subst (λ n. HoldsValid (placeAt l n)) (sym (h .before .start-of .ensures .0)) (v (lp .tested) (h .before .before .loop-test .taken))))),
     )
 
-add-i : tie.Need-add-i Inv-loop μ-loop
-add-i c = search needs
+add-tested : tie.Need-add-tested Inv-loop μ-loop
+add-tested c = search needs
 
 loop-less : tie.Need-loop-less Inv-loop μ-loop
 loop-less c = search needs
@@ -49,7 +49,7 @@ loop-again c =
     let lp = h .before .before .before .loop in
     let l = h .before .before .before .before .before .args .image .now in (
       omega (arith, h .before .before .loop-test .taken),
-      valid-more l (lp .i) _ (h .before .start-of .ensures .0) (h .holds-valid .ensures .0 (holds _ _ refl (c .if1 .left))) (lp .inv .1),
+      valid-more l (lp .tested) _ (h .before .start-of .ensures .0) (h .holds-valid .ensures .0 (holds _ _ refl (c .if1 .left))) (lp .inv .1),
     )
 
 returns-2 : tie.Need-returns-2 Inv-loop μ-loop
@@ -65,7 +65,7 @@ all-valid-spec =
     start-of-requires
     holds-valid-requires
     returns
-    add-i
+    add-tested
     loop-less
     loop-again
     returns-2)

@@ -1,4 +1,4 @@
--- `image_sheets::fallen` meets its contract.
+-- `image_sheets::fallen` meets its contract. The invariant: the set of the places passed, and the bit of the next.
 -- Assumes nothing.
 use mathlib.Core.Path.{_≡_, refl, sym, _∙_, ap, ap₂, subst}
 use mathlib.Core.Bool.{Bool, cond}

@@ -1,4 +1,4 @@
--- `image_sheets::judge_places` meets its contract.
+-- `image_sheets::judge_places` meets its contract. The invariant: the states of the places passed are those under the figures, and all else is as it was.
 -- Assumes nothing.
 use mathlib.Core.Path.{_≡_, sym, _∙_, ap, subst}
 use Prim.Native.Nat.{_-_, _≤_}
@@ -15,10 +15,10 @@ use Rattle.image_sheets.proofs.judge_places.Statement.{statement}
 use Rattle.image_sheets.proofs.judge_places.Tie as tie
 
 abbrev Inv-loop : tie.InvT-loop
-Inv-loop image₀ figures i₀ image i = (i ≤ 32) × StatesWritten image₀ image i (λ k. stateNumber (under figures (placeAt image₀ (startOf k)) .state))
+Inv-loop image₀ figures done₀ image done = (done ≤ 32) × StatesWritten image₀ image done (λ k. stateNumber (under figures (placeAt image₀ (startOf k)) .state))
 
 abbrev μ-loop : tie.MeasureT-loop
-μ-loop image₀ figures i₀ image i = 32 - i
+μ-loop image₀ figures done₀ image done = 32 - done
 
 loop-holds : tie.Need-loop-holds Inv-loop μ-loop
 loop-holds c = (omega arith, states-none _ _)
@@ -30,15 +30,15 @@ place-at-requires : tie.Need-place-at-requires Inv-loop μ-loop
 place-at-requires c κs = omega (arith, c .before .start-of .ensures .1, c .before .before .before .loop .inv .1 .size, c .before .before .before .before .before .pre .0)
 
 -- the place that is judged is as it was: those before it alone were written
-place-read : (c : tie.After-place-at Inv-loop μ-loop) → c .place-at .result ≡ placeAt (c .before .before .before .before .before .before .args .image .now) (startOf (c .before .before .before .before .loop .i))
+place-read : (c : tie.After-place-at Inv-loop μ-loop) → c .place-at .result ≡ placeAt (c .before .before .before .before .before .before .args .image .now) (startOf (c .before .before .before .before .loop .done))
 place-read c =
     let lp = c .before .before .before .before .loop in
-    c .place-at .ensures ∙ ap (placeAt (lp .image)) (c .before .before .start-of .ensures .0) ∙ place-ahead (lp .inv .1) (lp .i) (omega arith)
+    c .place-at .ensures ∙ ap (placeAt (lp .image)) (c .before .before .start-of .ensures .0) ∙ place-ahead (lp .inv .1) (lp .done) (omega arith)
 
 judged-requires : tie.Need-judged-requires Inv-loop μ-loop
 judged-requires c κs =
     let st = c .before .before .before .before .before .before in
-    let i = c .before .before .before .before .loop .i in
+    let i = c .before .before .before .before .loop .done in
     (st .pre .1, subst HoldsValid (sym (place-read c)) (st .pre .2 i (c .before .before .before .loop-test .taken)))
 
 state-number-requires : tie.Need-state-number-requires Inv-loop μ-loop
@@ -50,8 +50,8 @@ mul-image c = search needs
 slice-write-image : tie.Need-slice-write-image Inv-loop μ-loop
 slice-write-image c = search needs
 
-add-i : tie.Need-add-i Inv-loop μ-loop
-add-i c = search needs
+add-done : tie.Need-add-done Inv-loop μ-loop
+add-done c = search needs
 
 loop-less : tie.Need-loop-less Inv-loop μ-loop
 loop-less c = search needs
@@ -74,7 +74,7 @@ same-length c = c .before .loop .inv .1 .size
 returns : tie.Need-returns Inv-loop μ-loop
 returns c =
     let lp = c .before .loop in
-    let end : lp .i ≡ 32 = omega (arith, lp .inv .0, c .loop-test .left) in
+    let end : lp .done ≡ 32 = omega (arith, lp .inv .0, c .loop-test .left) in
     rw end at (lp .inv .1)
 
 pub judge-places-spec : {M : Type 1} → statement M
@@ -90,7 +90,7 @@ judge-places-spec =
     state-number-requires
     mul-image
     slice-write-image
-    add-i
+    add-done
     loop-less
     loop-again
     same-length

@@ -1,4 +1,4 @@
--- `image_sheets::keep_states` meets its contract.
+-- `image_sheets::keep_states` meets its contract. The invariant: the states of the places passed are kept.
 -- Assumes nothing.
 use mathlib.Core.Path.{_≡_, _∙_, ap}
 use mathlib.Core.Logic.{inr}
@@ -13,10 +13,10 @@ use Rattle.image_sheets.proofs.keep_states.Statement.{statement}
 use Rattle.image_sheets.proofs.keep_states.Tie as tie
 
 abbrev Inv-loop : tie.InvT-loop
-Inv-loop image₀ i₀ image i = (i ≤ 32) × Written image₀ image keptStatesAt i (λ k. word image₀ (startOf k))
+Inv-loop image₀ kept₀ image kept = (kept ≤ 32) × Written image₀ image keptStatesAt kept (λ k. word image₀ (startOf k))
 
 abbrev μ-loop : tie.MeasureT-loop
-μ-loop image₀ i₀ image i = 32 - i
+μ-loop image₀ kept₀ image kept = 32 - kept
 
 loop-holds : tie.Need-loop-holds Inv-loop μ-loop
 loop-holds c = (omega arith, written-none _ _ _)
@@ -39,8 +39,8 @@ mul-image-2 c = search needs
 slice-write-image : tie.Need-slice-write-image Inv-loop μ-loop
 slice-write-image c = search needs
 
-add-i : tie.Need-add-i Inv-loop μ-loop
-add-i c = search needs
+add-kept : tie.Need-add-kept Inv-loop μ-loop
+add-kept c = search needs
 
 loop-less : tie.Need-loop-less Inv-loop μ-loop
 loop-less c = search needs
@@ -51,7 +51,7 @@ loop-again c =
     let st = c .before .before .before .before .before in
     let t = c .before .before .loop-test .taken in
     let at = c .before .start-of .ensures in
-    (omega (arith, t), written-more _ _ _ _ _ (λ k. word (st .args .image .now) (startOf k)) (lp .inv .1) (omega (arith, st .pre, t)) (ap (word (lp .image)) (at .0) ∙ lp .inv .1 .outside (startOf (lp .i)) (inr (omega (arith, t)))))
+    (omega (arith, t), written-more _ _ _ _ _ (λ k. word (st .args .image .now) (startOf k)) (lp .inv .1) (omega (arith, st .pre, t)) (ap (word (lp .image)) (at .0) ∙ lp .inv .1 .outside (startOf (lp .kept)) (inr (omega (arith, t)))))
 
 same-length : tie.Need-same-length Inv-loop μ-loop
 same-length c = c .before .loop .inv .1 .size
@@ -59,7 +59,7 @@ same-length c = c .before .loop .inv .1 .size
 returns : tie.Need-returns Inv-loop μ-loop
 returns c =
     let lp = c .before .loop in
-    let end : lp .i ≡ 32 = omega (arith, lp .inv .0, c .loop-test .left) in
+    let end : lp .kept ≡ 32 = omega (arith, lp .inv .0, c .loop-test .left) in
     rw end at (lp .inv .1)
 
 pub keep-states-spec : {M : Type 1} → statement M
@@ -75,7 +75,7 @@ keep-states-spec =
     add-image
     mul-image-2
     slice-write-image
-    add-i
+    add-kept
     loop-less
     loop-again
     same-length

@@ -1,4 +1,4 @@
--- `image_sheets::put_in_force` meets its contract.
+-- `image_sheets::put_in_force` meets its contract. Each stage leaves what the next one needs.
 -- Assumes nothing.
 use mathlib.Core.Path.{sym, _∙_, subst}
 use mathlib.Core.Logic.{inr}

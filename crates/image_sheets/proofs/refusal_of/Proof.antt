@@ -1,4 +1,4 @@
--- `image_sheets::refusal_of` meets its contract.
+-- `image_sheets::refusal_of` meets its contract. Each way in which the tests end.
 -- Assumes nothing.
 use mathlib.Core.Path.{_≡_, refl, sym, _∙_, ap}
 use mathlib.Core.Bool.{true}

@@ -1,4 +1,4 @@
--- `image_sheets::states_back` meets its contract.
+-- `image_sheets::states_back` meets its contract. The invariant: the places passed have the states that are kept.
 -- Assumes nothing.
 use mathlib.Core.Path.{_≡_}
 use Prim.Native.Nat.{_+_, _-_, _≤_}
@@ -12,10 +12,10 @@ use Rattle.image_sheets.proofs.states_back.Statement.{statement}
 use Rattle.image_sheets.proofs.states_back.Tie as tie
 
 abbrev Inv-loop : tie.InvT-loop
-Inv-loop image₀ i₀ image i = (i ≤ 32) × StatesWritten image₀ image i (λ k. word image₀ (keptStatesAt + k))
+Inv-loop image₀ back₀ image back = (back ≤ 32) × StatesWritten image₀ image back (λ k. word image₀ (keptStatesAt + k))
 
 abbrev μ-loop : tie.MeasureT-loop
-μ-loop image₀ i₀ image i = 32 - i
+μ-loop image₀ back₀ image back = 32 - back
 
 loop-holds : tie.Need-loop-holds Inv-loop μ-loop
 loop-holds c = (omega arith, states-none _ _)
@@ -38,8 +38,8 @@ mul-image-2 c = search needs
 slice-write-image : tie.Need-slice-write-image Inv-loop μ-loop
 slice-write-image c = search needs
 
-add-i : tie.Need-add-i Inv-loop μ-loop
-add-i c = search needs
+add-back : tie.Need-add-back Inv-loop μ-loop
+add-back c = search needs
 
 loop-less : tie.Need-loop-less Inv-loop μ-loop
 loop-less c = search needs
@@ -50,7 +50,7 @@ loop-again c =
     let st = c .before .before .before .before .before in
     let t = c .before .before .loop-test .taken in
     let at = c .before .start-of .ensures in
-    (omega (arith, t), states-more _ _ _ _ _ _ (lp .inv .1) (at .0) (omega (arith, at .1, st .pre)) (states-apart (lp .inv .1) (keptStatesAt + lp .i) (omega (arith, t))))
+    (omega (arith, t), states-more _ _ _ _ _ _ (lp .inv .1) (at .0) (omega (arith, at .1, st .pre)) (states-apart (lp .inv .1) (keptStatesAt + lp .back) (omega (arith, t))))
 
 same-length : tie.Need-same-length Inv-loop μ-loop
 same-length c = c .before .loop .inv .1 .size
@@ -58,7 +58,7 @@ same-length c = c .before .loop .inv .1 .size
 returns : tie.Need-returns Inv-loop μ-loop
 returns c =
     let lp = c .before .loop in
-    let end : lp .i ≡ 32 = omega (arith, lp .inv .0, c .loop-test .left) in
+    let end : lp .back ≡ 32 = omega (arith, lp .inv .0, c .loop-test .left) in
     rw end at (lp .inv .1)
 
 pub states-back-spec : {M : Type 1} → statement M
@@ -74,7 +74,7 @@ states-back-spec =
     slice-read-image
     mul-image-2
     slice-write-image
-    add-i
+    add-back
     loop-less
     loop-again
     same-length

@@ -1,4 +1,4 @@
--- `image_sheets::take_back` meets its contract.
+-- `image_sheets::take_back` meets its contract. What is kept of a reachable book is one that stands, so the figures worked out are those of its sheet.
 -- Assumes nothing.
 use mathlib.Core.Path.{_≡_, refl, _∙_, ap₂}
 use mathlib.Core.Logic.{inr}

@@ -4,7 +4,9 @@
 // checks, require document 01's own sentence on the book, `Reachable`; the others require nothing. Who holds a book in a local of their own may
 // settle a place (`settle`) and store it, which copies no book and is the same call: its contract says so of every book that has the place
 // (`HasPlace` of the book's definitions).
+ghost use mathlib.Core.Bool.{Bool};
 ghost use Prim.Native.Nat.{ℕ};
+ghost use Rattle.benchmark.specs.declared.Benchmarks.{Benchmarks};
 ghost use Rattle.book.specs.declared.Book.{Book};
 ghost use Rattle.book.specs.Calls.{by};
 ghost use Rattle.book.specs.Promises.{Does};
@@ -27,16 +29,16 @@ pub enum CodeAct {
 }
 
 // CLOSE (code). 6, 9, 17, 12. Else a draft again.
-fn close_at(desk: u32, code: u32, p: Place, loaded: bool, figures: Benchmarks) -> Settled
-    ensures { λ r. ⌜ SettlesOn CodeAct.Close desk code p loaded figures r ⌝ }
+pub fn close_at(desk: u32, code: u32, p: Place) -> Settled
+    ensures { λ r. ⌜ ((loaded : Bool) (figures : Benchmarks) → SettlesOn CodeAct.Close desk code p loaded figures r) ⌝ }
 {
     let checked = opening::usable_check(desk, code, p, checks::closed_check(p));
     book::settled_by(checked, p, book::in_state(p, State::Draft))
 }
 
 // DROP (code). 6, 9, 17, 7. Else empty.
-fn drop_at(desk: u32, code: u32, p: Place, loaded: bool, figures: Benchmarks) -> Settled
-    ensures { λ r. ⌜ SettlesOn CodeAct.Drop desk code p loaded figures r ⌝ }
+pub fn drop_at(desk: u32, code: u32, p: Place) -> Settled
+    ensures { λ r. ⌜ ((loaded : Bool) (figures : Benchmarks) → SettlesOn CodeAct.Drop desk code p loaded figures r) ⌝ }
 {
     let checked = opening::usable_check(desk, code, p, checks::open_check(p));
     let nothing = book::empty_place();
@@ -57,8 +59,8 @@ pub fn settle(
 {
     match act {
         CodeAct::Open => opening::open_as(State::Open, desk, code, p, loaded, figures),
-        CodeAct::Close => close_at(desk, code, p, loaded, figures),
-        CodeAct::Drop => drop_at(desk, code, p, loaded, figures),
+        CodeAct::Close => close_at(desk, code, p),
+        CodeAct::Drop => drop_at(desk, code, p),
         CodeAct::Ask => opening::open_as(State::Marked, desk, code, p, loaded, figures),
         CodeAct::Confirm => opening::confirm_at(desk, code, p),
     }

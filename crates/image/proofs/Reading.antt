@@ -6,12 +6,12 @@ use mathlib.Core.List.{List}
 use Prim.Native.Nat.{ℕ, _+_, _-_, _≤_, _<_}
 use native.Mathlib.Omega.{arith}
 use lib.Dec.{eqb}
-use lib.ListN.{length, take, drop, length-drop}
+use lib.ListN.{length, take, drop, replicate, length-drop, length-replicate}
 use lib.Seq.{getD-take, getD-drop, length-take-le}
 use borrow.Author.Tests.{eqb-true}
 use Rattle.laws.specs.Notions.{tabulate}
 use Rattle.laws.proofs.Every.{and-left}
-use Rattle.laws.proofs.Lists.{length-tabulate, getD-tabulate, tabulate-alike, is-table}
+use Rattle.laws.proofs.Lists.{noughts, length-tabulate, getD-tabulate, tabulate-alike, is-table}
 use Rattle.tariff.specs.Tariff.{recordLength}
 use Rattle.image.specs.Layout.{wordCount, mark, placeWords, recordAt}
 use Rattle.image.specs.Image.{word, words, isImage}
@@ -34,6 +34,10 @@ word-at at n l j h = getD-tabulate n (λ k. word l (at + k)) j h
 pub are-words : (at n : ℕ) (l x : List ℕ) → length x ≡ n → ((j : ℕ) → j < n → word l (at + j) ≡ word x j) → words at n l ≡ x
 unfolding words
 are-words at n l x e h = sym (is-table n (λ j. word l (at + j)) x e (λ j k. sym (h j k)))
+
+-- a part of zeros
+pub words-nought : (at n : ℕ) (l : List ℕ) → ((j : ℕ) → at ≤ j → j < at + n → word l j ≡ 0) → words at n l ≡ replicate n 0
+words-nought at n l h = are-words at n l (replicate n 0) (length-replicate n 0) (λ j k. h (at + j) (omega arith) (omega arith) ∙ sym (noughts n j))
 
 -- two images with the same words in a part
 pub words-alike : (at n : ℕ) (l m : List ℕ) → ((j : ℕ) → at ≤ j → j < at + n → word m j ≡ word l j) → words at n m ≡ words at n l

@@ -1,6 +1,6 @@
 -- Words that a loop writes from a place on, one a turn.
 -- Assumes nothing.
-use mathlib.Core.Path.{_≡_, refl, sym, _∙_, ap}
+use mathlib.Core.Path.{_≡_, refl, sym, _∙_, ap, subst}
 use mathlib.Core.List.{List}
 use mathlib.Core.Logic.{_⊎_, inl, inr}
 use Prim.Native.Nat.{ℕ, _+_, _≤_, _<_}
@@ -33,3 +33,10 @@ written-more l m at i v x w h e =
           | yes g ↦ (let q : j ≡ i = omega arith in rw q (getD-set-same m (at + i) v 0 (omega (arith, w .size)) ∙ e))
           | no g ↦ getD-set-other m (at + i) (at + j) v 0 (λ q. g (omega arith)) ∙ w .inside j (omega arith)
         ]
+
+-- one word written
+pub written-one : (l : List ℕ) (at v : ℕ) → at < length l → Written l (set l at v) at 1 (λ j. v)
+written-one l at v h = subst (λ k. Written l (set l k v) at 1 (λ j. v)) here (written-more l l at 0 v (λ j. v) (written-none l at (λ j. v)) (omega arith) refl)
+  where
+    here : at + 0 ≡ at
+    here = omega arith

@@ -23,7 +23,7 @@ returns : tie.Need-returns
 returns c =
     let h = c .before .before in
     let a = h .before .before .args in
-    by-checks _ _ _ _ _ _ (c .settled-by .ensures)
+    λ loaded figures. by-checks _ _ _ _ _ _ (c .settled-by .ensures)
     (h .usable-check .ensures ∙ ap (usableCheck (a .desk) (a .code) (a .p)) (h .before .open-check .ensures)) (c .before .empty-place .ensures)
 
 pub drop-at-spec : {M : Type 1} → statement M

@@ -51,13 +51,13 @@ returns c =
 returns-2 : tie.Need-returns-2
 returns-2 c =
     let a = c .before .before .before .args in
-    let s = subst (λ (b : CodeAct). SettlesOn b (a .desk) (a .code) (a .p) (a .loaded) (a .figures) (c .close-at .result)) (sym (c .before .enum-told2 .given .1)) (c .close-at .ensures) in
+    let s = subst (λ (b : CodeAct). SettlesOn b (a .desk) (a .code) (a .p) (a .loaded) (a .figures) (c .close-at .result)) (sym (c .before .enum-told2 .given .1)) (c .close-at .ensures (a .loaded) (a .figures)) in
     (s, λ b i h. acts h (a .desk) (a .act) (c .close-at .result) s)
 
 returns-3 : tie.Need-returns-3
 returns-3 c =
     let a = c .before .before .before .args in
-    let s = subst (λ (b : CodeAct). SettlesOn b (a .desk) (a .code) (a .p) (a .loaded) (a .figures) (c .drop-at .result)) (sym (c .before .enum-told3 .given .1)) (c .drop-at .ensures) in
+    let s = subst (λ (b : CodeAct). SettlesOn b (a .desk) (a .code) (a .p) (a .loaded) (a .figures) (c .drop-at .result)) (sym (c .before .enum-told3 .given .1)) (c .drop-at .ensures (a .loaded) (a .figures)) in
     (s, λ b i h. acts h (a .desk) (a .act) (c .drop-at .result) s)
 
 returns-4 : tie.Need-returns-4

@@ -10,6 +10,7 @@ use lib.ListN.{length, getD, take}
 use lib.Seq.{length-take-le}
 use borrow.Author.Needs.{needs}
 use borrow.Author.Tests.{ltb-true}
+use Rattle.book.specs.declared.Book.{Book}
 use Rattle.book.specs.Calls.{UNDO, by}
 use Rattle.book.specs.Checks.{inside}
 use Rattle.book.specs.Book.{beyond}
@@ -81,38 +82,44 @@ module _ (s : tie.After-slice-known4 Inv-loop μ-loop) where
       → HasPlace (turn .loop .book) (getD (take n numbers-of) 0 0) i (getD (turn .loop .book .places) i beyond) (turn .loop .book .loaded) (turn .loop .book .benchmarks)
   has step n desk i a h = has-place (turn .loop .book) numbers-of n i (turn .loop .inv .2 .reachable) (some-number step n (a .2)) h
 
+-- an answered line, of what is the same
+answered-as : {line line′ : Response} {b b′ : Book} {before before′ : List ℕ} {at next next′ : ℕ} {after after′ : List ℕ}
+    → line′ ≡ line → b′ ≡ b → before ≡ before′ → next′ ≡ next → after′ ≡ after
+    → Answered line b before at next after → Answered line′ b′ before′ at next′ after′
+answered-as e f p g h a = rw (e, f, sym p, g, h) a
+
 -- after any of the arms it is answered
 line-done : (c : tie.At-match-came Inv-loop μ-loop)
     → Answered (line-of (c .before)) (c .match .book) (turn (c .before) .loop .out) (turn (c .before) .loop .at) (c .match .at) (c .match .out)
 line-done c =
     let s = c .before in
     ⊎-elim
-    (λ w. rw (w .3, w .4, w .5) (subst (Saying s) (w .1 .given .1) (said-of s)))
+    (λ w. answered-as refl (w .4) refl (w .5) (w .3) (subst (Saying s) (w .1 .given .1) (said-of s)))
     (⊎-elim
     (λ w.
     let a = asks-set s _ _ (w .1 .given .1) in
-    rw (w .9, w .10, w .11, a .0) (rw (a .3) at (w .5 .ensures)))
+    answered-as (a .0) (w .10) (a .3) (w .11) (w .9) (w .5 .ensures))
     (⊎-elim
     (λ w.
     let a = asks-undo s _ (w .1 .given .1) in
-    rw (w .8, w .9, w .10, a .0) (rw (a .1) at (w .4 .ensures)))
+    answered-as (a .0) (w .9) (a .1) (w .10) (w .8) (w .4 .ensures))
     (⊎-elim
     (λ w.
     let a = asks-on s _ _ _ (w .1 .given .1) in
     let b = turn s .loop .book in
     let gone = w .15 .ensures ∙ kept-gone (w .9 .result .reply) (b .kept) (sym (w .13 .ensures) ∙ w .14 .taken) in
-    rw (w .16, w .17, w .18, a .0)
-    (stored-answered b (w .4 .result) (w .9 .result .place) (w .9 .result .reply) gone (rw (a .3) at (w .9 .ensures _ _ (has s (w .1 .given .0 .0) (w .1 .given .0 .1 .0) _ _ a (w .4 .ensures))))))
+    answered-as (a .0) (w .17) (a .3) (w .18) (w .16)
+    (stored-answered b (w .4 .result) (w .9 .result .place) (w .9 .result .reply) gone (w .9 .ensures _ _ (has s (w .1 .given .0 .0) (w .1 .given .0 .1 .0) _ _ a (w .4 .ensures)))))
     (⊎-elim
     (λ w.
     let a = asks-on s _ _ _ (w .1 .given .1) in
     let b = turn s .loop .book in
     let stays = kept-stays (w .9 .result .reply) b (turn s .loop .inv .2 .reachable) (sym (w .13 .ensures) ∙ w .14 .left) in
-    rw (w .15, w .16, w .17, a .0)
-    (stored-answered b (w .4 .result) (w .9 .result .place) (w .9 .result .reply) stays (rw (a .3) at (w .9 .ensures _ _ (has s (w .1 .given .0 .0) (w .1 .given .0 .1 .0) _ _ a (w .4 .ensures))))))
+    answered-as (a .0) (w .16) (a .3) (w .17) (w .15)
+    (stored-answered b (w .4 .result) (w .9 .result .place) (w .9 .result .reply) stays (w .9 .ensures _ _ (has s (w .1 .given .0 .0) (w .1 .given .0 .1 .0) _ _ a (w .4 .ensures)))))
     (λ w.
     let a = asks-tells s _ _ _ (w .1 .given .1) in
-    rw (w .8, w .9, w .10, a .0) (rw (a .3) at (w .5 .ensures)))))))
+    answered-as (a .0) (w .9) (a .3) (w .10) (w .8) (w .5 .ensures))))))
     (c .match .came)
 
 -- room for its answer

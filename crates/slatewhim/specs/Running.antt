@@ -5,6 +5,7 @@ use mathlib.Core.Bool.{cond}
 use mathlib.Core.List.{List}
 use Prim.Native.Nat.{ℕ}
 use lib.Dec.{eqb}
+use Rattle.calendar.specs.declared.Period.{Period}
 use Rattle.rebates.specs.declared.Account.{Account}
 use Rattle.rebates.specs.declared.Run.{Run}
 use Rattle.rebates.specs.declared.Run.the-variants as run
@@ -13,6 +14,10 @@ use Rattle.image.specs.Image.{bookIn}
 use Rattle.image.specs.Changing.{noBook}
 use Rattle.image_check.specs.Checking.{IsBook}
 use Rattle.slatewhim.specs.declared.Ran.{Ran}
+
+-- a period, as C hands it over
+abbrev pub periodOf : (year month months : ℕ) → Period
+periodOf year month months = record { year = year; month = month; months = months }
 
 -- the answer as it is handed to C, and the one that it stands for
 abbrev pub ranOf : Run → Ran

@@ -17,10 +17,10 @@ use Rattle.book.specs.Checks.{undoAnswer}
 use Rattle.book.specs.Book.{restored, Reachable}
 use Rattle.stands.proofs.Kept.{reachable-stands}
 use Rattle.undo.proofs.Figures.{figures-worked}
-use Rattle.image.specs.Layout.{loadedAt, fieldsAt, keptAt, keptLoadedAt, keptFieldsAt, keptPeriodAt, keptStatesAt, keptWords, placesAt, startOf}
+use Rattle.image.specs.Layout.{loadedAt, fieldsAt, keptAt, keptLoadedAt, keptFieldsAt, keptPeriodAt, keptStatesAt, keptWords, placesAt, placeWords, startOf}
 use Rattle.image.specs.Image.{word, words, flagOf, periodIn, keptIn, bookIn, Canonical}
 use Rattle.image.specs.Changing.{Written}
-use Rattle.image_sheets.specs.Stages.{StatesWritten, FiguresWritten, Leaves}
+use Rattle.image_sheets.specs.Stages.{sheetWords, StatesWritten, FiguresWritten, Leaves}
 use Rattle.image_sheets.proofs.States.{states-apart, state-apart, place-in-state, places-back}
 use Rattle.image_sheets.proofs.Parts.{words-copied, figures-alike, zeros-kept}
 
@@ -34,9 +34,9 @@ pub undo-answer : (desk : ℕ) (any t : Bool) → isFull desk ≡ true → any �
 undo-answer desk any t full e = ap₂ (λ q u. need refused q 17 (need refused u 15 accepted)) full e
 
 module _ (l a b c d : List ℕ) (f : Benchmarks) (states : StatesWritten l a 32 (λ i. word l (keptStatesAt + i)))
-    (sheet : Written a b loadedAt 100 (λ j. word a (keptLoadedAt + j))) (figures : FiguresWritten b c f) (gone : Written c d keptAt keptWords (λ j. 0)) where
+    (sheet : Written a b loadedAt sheetWords (λ j. word a (keptLoadedAt + j))) (figures : FiguresWritten b c f) (gone : Written c d keptAt keptWords (λ j. 0)) where
   -- each word of the image
-  sheet-word : (j : ℕ) → j < 100 → word d (loadedAt + j) ≡ word l (keptLoadedAt + j)
+  sheet-word : (j : ℕ) → j < sheetWords → word d (loadedAt + j) ≡ word l (keptLoadedAt + j)
   sheet-word j h =
       gone .outside (loadedAt + j) (inl (omega arith)) ∙ figures .outside (loadedAt + j) (inl (omega arith)) ∙ sheet .inside j h
       ∙ states-apart states (keptLoadedAt + j) (omega arith)
@@ -57,7 +57,7 @@ module _ (l a b c d : List ℕ) (f : Benchmarks) (states : StatesWritten l a 32 
   state-word : (i : ℕ) → i < 32 → word d (startOf i) ≡ word l (keptStatesAt + i)
   state-word i h = place-word (startOf i) (omega arith) ∙ states .inside i h
 
-  other-word : (i j : ℕ) → startOf i < j → j < startOf i + 29 → word d j ≡ word l j
+  other-word : (i j : ℕ) → startOf i < j → j < startOf i + placeWords → word d j ≡ word l j
   other-word i j g h = place-word j (omega arith) ∙ state-apart states i j g h
 
   stays : Canonical l → Canonical d

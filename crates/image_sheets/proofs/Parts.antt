@@ -16,7 +16,7 @@ use Rattle.image.specs.Layout.{loadedAt, fieldsAt, periodAt, chargesAt, levelsA
 use Rattle.image.specs.Image.{word, words, stateOf, flagOf, figuresIn, statesIn, keptIn}
 use Rattle.image.specs.Changing.{Written}
 use Rattle.image.proofs.Reading.{length-words, word-at, are-words, words-alike}
-use Rattle.image_sheets.specs.Stages.{FiguresWritten, SheetWritten, StepKept}
+use Rattle.image_sheets.specs.Stages.{sheetWords, FiguresWritten, SheetWritten, StepKept}
 
 pub words-copied : (to from n : ℕ) (l m : List ℕ) → ((j : ℕ) → j < n → word m (to + j) ≡ word l (from + j)) → words to n m ≡ words from n l
 words-copied to from n l m h =
@@ -93,7 +93,7 @@ sheet-written l a b c m s f u x y z w =
     }
 
 -- what is kept for UNDO: its mark, the sheet and the states
-pub step-kept : (l a b m : List ℕ) → Written l a keptAt 1 (λ j. 1) → Written a b keptLoadedAt 100 (λ j. word a (loadedAt + j))
+pub step-kept : (l a b m : List ℕ) → Written l a keptAt 1 (λ j. 1) → Written a b keptLoadedAt sheetWords (λ j. word a (loadedAt + j))
     → Written b m keptStatesAt 32 (λ i. word b (startOf i)) → StepKept l m
 step-kept l a b m x y z =
     record {

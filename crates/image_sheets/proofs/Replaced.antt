@@ -13,10 +13,10 @@ use Rattle.book.specs.declared.Place.{Place}
 use Rattle.book.specs.Calls.{Sheet, SET}
 use Rattle.book.specs.Checks.{figuresOf}
 use Rattle.book.specs.Book.{beyond, stoodAs, withState, under, keptOf, changed}
-use Rattle.image.specs.Layout.{loadedAt, fieldsAt, keptAt, keptLoadedAt, keptFieldsAt, keptStatesAt, placesAt, startOf}
+use Rattle.image.specs.Layout.{loadedAt, fieldsAt, keptAt, keptLoadedAt, keptFieldsAt, keptStatesAt, placesAt, placeWords, startOf}
 use Rattle.image.specs.Image.{word, stateNumber, stateOf, flagOf, placeAt, placesIn, statesIn, keptIn, bookIn, Canonical}
 use Rattle.image.proofs.Places.{length-places, place-there, place-alike}
-use Rattle.image_sheets.specs.Stages.{StatesWritten, SheetWritten, StepKept, Leaves}
+use Rattle.image_sheets.specs.Stages.{sheetWords, StatesWritten, SheetWritten, StepKept, Leaves}
 use Rattle.image_sheets.proofs.States.{states-apart, state-apart, place-state, state-back, state-most, place-in-state, length-states, state-there}
 use Rattle.image_sheets.proofs.Parts.{words-copied}
 
@@ -26,7 +26,7 @@ module _ (l a b d : List ℕ) (s : Sheet) (f : Benchmarks) (kept : StepKept l a)
   kept-word : (j : ℕ) → keptAt ≤ j → j < placesAt → word d j ≡ word a j
   kept-word j h k = sheet .outside j (inr h) ∙ states-apart judged j k
 
-  kept-sheet-word : (j : ℕ) → j < 100 → word d (keptLoadedAt + j) ≡ word l (loadedAt + j)
+  kept-sheet-word : (j : ℕ) → j < sheetWords → word d (keptLoadedAt + j) ≡ word l (loadedAt + j)
   kept-sheet-word j h = kept-word (keptLoadedAt + j) (omega arith) (omega arith) ∙ kept .sheet j h
 
   kept-field-word : (j : ℕ) → j < fieldCount → word d (keptFieldsAt + j) ≡ word l (fieldsAt + j)
@@ -43,7 +43,7 @@ module _ (l a b d : List ℕ) (s : Sheet) (f : Benchmarks) (kept : StepKept l a)
       sheet .outside (startOf i) (inr (omega arith)) ∙ judged .inside i h
       ∙ ap (λ p. stateNumber (under f p .state)) (place-alike l a (startOf i) (λ j g q. kept .outside j (inr (omega arith))))
 
-  other-word : (i j : ℕ) → startOf i < j → j < startOf i + 29 → word d j ≡ word l j
+  other-word : (i j : ℕ) → startOf i < j → j < startOf i + placeWords → word d j ≡ word l j
   other-word i j g h = sheet .outside j (inr (omega arith)) ∙ state-apart judged i j g h ∙ kept .outside j (inr (omega arith))
 
   stays : Canonical l → Canonical d

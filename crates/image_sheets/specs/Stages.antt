@@ -46,6 +46,10 @@ pub record FiguresWritten (l m : List ℕ) (f : Benchmarks) : Type 0 where
   pub outside : (j : ℕ) → (j < chargesAt) ⊎ (keptAt ≤ j) → word m j ≡ word l j
   pub figures : figuresIn m ≡ f
 
+-- the words of a sheet: whether there is one, its fields and its period
+abbrev pub sheetWords : ℕ
+sheetWords = 100
+
 -- a sheet with its figures, as the one in force
 pub record SheetWritten (l m : List ℕ) (s : Sheet) (f : Benchmarks) : Type 0 where
   pub size : length m ≡ length l
@@ -60,7 +64,7 @@ pub record StepKept (l m : List ℕ) : Type 0 where
   pub size : length m ≡ length l
   pub outside : (j : ℕ) → (j < keptAt) ⊎ (placesAt ≤ j) → word m j ≡ word l j
   pub any : word m keptAt ≡ 1
-  pub sheet : (j : ℕ) → j < 100 → word m (keptLoadedAt + j) ≡ word l (loadedAt + j)
+  pub sheet : (j : ℕ) → j < sheetWords → word m (keptLoadedAt + j) ≡ word l (loadedAt + j)
   pub states : (i : ℕ) → i < 32 → word m (keptStatesAt + i) ≡ word l (startOf i)
 
 -- an accepted call on words that hold a book: the book after it. Of any words: they are an image if they were one, and canonical if they were so

@@ -39,6 +39,9 @@ use image::PEAK_AT;
 use image::PERIOD_AT;
 use refusal::Check;
 
+// The words of a sheet: whether there is one, its fields and its period.
+const SHEET_WORDS: usize = 100;
+
 // The number of a check: 0, or that of its refusal.
 fn number_of_check(check: Check) -> u32
     ensures { λ r. ⌜ r ≡ numberOf (checked refused check accepted) ⌝ }
@@ -130,7 +133,7 @@ fn keep(image: &mut [u32])
     ensures { λ _. ⌜ StepKept (now (image .entry)) (now (image .exit)) ⌝ }
 {
     image[KEPT_AT] = 1;
-    image::copy(image, LOADED_AT, KEPT_LOADED_AT, 100);
+    image::copy(image, LOADED_AT, KEPT_LOADED_AT, SHEET_WORDS);
     keep_states(image);
 }
 
@@ -198,7 +201,7 @@ fn take_back(image: &mut [u32])
     let worked = figures::work_out(&image[KEPT_FIELDS_AT..KEPT_PERIOD_AT], period);
     let figures = worked.benchmarks;
     states_back(image);
-    image::copy(image, KEPT_LOADED_AT, LOADED_AT, 100);
+    image::copy(image, KEPT_LOADED_AT, LOADED_AT, SHEET_WORDS);
     write_figures(image, figures);
     image::clear(image, KEPT_AT, KEPT_WORDS);
 }

@@ -34,7 +34,7 @@ returns c =
     let lp = h .before .before .before .loop in
     let l = h .before .before .before .before .before .args .image .now in (
       λ e. never (cc),
-      λ v. absurd (not-both _ (c .if1 .taken) (h .holds-valid .ensures .1 (subst (λ n. HoldsValid (placeAt l n)) (sym (h .before .start-of .ensures .0)) (v (lp .tested) (h .before .before .loop-test .taken))))),
+      λ v. absurd (not-both _ (c .if1 .taken) (h .holds-valid .ensures .1 (subst (λ n. HoldsValid (placeAt l n)) (sym (h .before .start-of .ensures .0)) (v (lp .tested) (omega (arith, h .before .before .loop-test .taken)))))),
     )
 
 add-tested : tie.Need-add-tested Inv-loop μ-loop

@@ -41,7 +41,7 @@ module _ (c : tie.After-bit-if-fell Inv-loop μ-loop) where
   more : at-loop .loop .codes + c .bit-if-fell .result ≡ setOf (at-loop .loop .i + 1) test
   more =
       let read = c .before .before in
-      let there = fell-there (at-loop .before .before .args .image .now) (at-loop .before .before .args .figures) (at-loop .loop .i) _ _ _ (c .before .before .before .before .loop-test .taken) (read .before .start-of .ensures .0) (read .place-at .ensures) (c .before .judged .ensures) in
+      let there = fell-there (at-loop .before .before .args .image .now) (at-loop .before .before .args .figures) (at-loop .loop .i) _ _ _ (omega (arith, c .before .before .before .before .loop-test .taken)) (read .before .start-of .ensures .0) (read .place-at .ensures) (c .before .judged .ensures) in
       ap₂ _+_ (at-loop .loop .inv .2) (c .bit-if-fell .ensures ∙ ap₂ (λ t n. cond t n 0) there (at-loop .loop .inv .1))
       ∙ set-more test (at-loop .loop .i)
 
@@ -65,7 +65,7 @@ place-at-requires c κs = search needs
 judged-requires : tie.Need-judged-requires Inv-loop μ-loop
 judged-requires c κs =
     let st = c .before .before .before .before .before in
-    (st .pre .1, subst HoldsValid (sym (c .place-at .ensures ∙ ap (placeAt (st .args .image .now)) (c .before .start-of .ensures .0))) (st .pre .2 (c .before .before .before .loop .i) (c .before .before .loop-test .taken)))
+    (st .pre .1, subst HoldsValid (sym (c .place-at .ensures ∙ ap (placeAt (st .args .image .now)) (c .before .start-of .ensures .0))) (st .pre .2 (c .before .before .before .loop .i) (omega (arith, c .before .before .loop-test .taken))))
 
 bit-if-fell-requires : tie.Need-bit-if-fell-requires Inv-loop μ-loop
 bit-if-fell-requires c κs = search needs

@@ -39,7 +39,7 @@ judged-requires : tie.Need-judged-requires Inv-loop μ-loop
 judged-requires c κs =
     let st = c .before .before .before .before .before .before in
     let i = c .before .before .before .before .loop .done in
-    (st .pre .1, subst HoldsValid (sym (place-read c)) (st .pre .2 i (c .before .before .before .loop-test .taken)))
+    (st .pre .1, subst HoldsValid (sym (place-read c)) (st .pre .2 i (omega (arith, c .before .before .before .loop-test .taken))))
 
 state-number-requires : tie.Need-state-number-requires Inv-loop μ-loop
 state-number-requires c κs = search needs

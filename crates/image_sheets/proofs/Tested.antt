@@ -45,7 +45,7 @@ pub figures-passed : (s : List ℕ) (p : Period) (f : Benchmarks) → f ≡ work
 figures-passed s p f e h = e ∙ ap (λ k. workedIf k (benchmarksOf s p)) h
 
 module _ (l : List ℕ) (desk : ℕ) (check : Check) where
-  -- a number that is not 0 says of no test that it passed
+  -- an end with a number that is not 0; every place of an image that holds a book is valid
   abbrev Answers : ℕ → Type 0
   Answers r = isImage l ≡ true → AllValid l → r ≡ numberOf (need refused (isFull desk) 17 (checked refused check accepted))
 

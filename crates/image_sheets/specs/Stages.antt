@@ -1,4 +1,4 @@
--- What each stage of SET and UNDO writes into an image, word by word; every other word is as before.
+-- What SET and TRIAL test first, and what each stage of SET and UNDO writes into an image, word by word; every other word is as before.
 -- Assumes nothing.
 use mathlib.Core.Path.{_≡_}
 use mathlib.Core.Bool.{true, false}
@@ -24,8 +24,8 @@ use Rattle.image.specs.Changing.{noBook, numberOf}
 abbrev pub AllValid : List ℕ → Type 0
 AllValid l = (i : ℕ) → i < 32 → HoldsValid (placeAt l (startOf i))
 
--- What SET and TRIAL test before anything is written, where a sheet's own checks come to one: of an image that holds a book the number is that
--- of SET's answer, and if it is 0, all tests passed
+-- What SET and TRIAL test before anything is written, given the answer of the sheet's own checks: of an image that holds a book the number is
+-- that of SET's answer, and where it is 0, all tests passed
 pub record Refuses (l : List ℕ) (desk : ℕ) (check : Check) (r : ℕ) : Type 0 where
   pub no-book : isImage l ≡ false → r ≡ noBook
   pub answers : isImage l ≡ true → Reachable (bookIn l) → r ≡ numberOf (need refused (isFull desk) 17 (checked refused check accepted))

@@ -68,7 +68,8 @@ fn all_valid(image: &[u32]) -> bool
     true
 }
 
-// What SET and TRIAL refuse, where that is the answer of a sheet's own checks: what is no image; 17; 1 to 4, 14, 5; what is no book.
+// The number of SET's and TRIAL's answer, or 0, given that of the sheet's own checks. What is no image; 17; 1 to 4, 14, 5; what is no book,
+// since some place holds no valid tariff.
 fn refusal_of(image: &[u32], desk: u32, check: Check) -> u32
     requires { ⌜ ((n : ℕ) → check ≡ Refuse n → n ≢ 0) ⌝ }
     ensures { λ r. ⌜ Refuses (now (image .entry)) desk check r ⌝ }
@@ -163,7 +164,7 @@ fn put_in_force(image: &mut [u32], fields: &[u32], period: Period, figures: Benc
     write_sheet(image, fields, period, figures);
 }
 
-// SET (sheet, period).
+// SET (sheet, period). What is refused, and else as above.
 pub fn set(image: &mut [u32], desk: u32, fields: &[u32], period: Period) -> u32
     ensures { λ r. ⌜ Changes (by desk (SET (sheetAt (now (fields .entry)) period))) (now (image .entry)) r (now (image .exit)) ⌝ }
 {
@@ -250,7 +251,7 @@ fn fallen(image: &[u32], figures: Benchmarks) -> u32
     codes as u32
 }
 
-// TRIAL (sheet, period).
+// TRIAL (sheet, period). What SET refuses, and else the codes.
 pub fn trial(image: &[u32], desk: u32, fields: &[u32], period: Period) -> Falling
     ensures { λ r. ⌜ Tells (now (image .entry)) desk (sheetAt (now (fields .entry)) period) r ⌝ }
 {

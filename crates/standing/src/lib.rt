@@ -3,7 +3,7 @@
 // state, the figures against those worked out again from the sheet, and what is kept for UNDO by the book that UNDO would bring back and by
 // what SET of the sheet in force would make of it.
 ghost use mathlib.Core.Path.{_≡_};
-ghost use mathlib.Core.Bool.{true, false};
+ghost use mathlib.Core.Bool.{true};
 ghost use mathlib.Core.Logic.{_↔_};
 ghost use Prim.Native.Nat.{ℕ, _<_};
 ghost use lib.ListN.{length, getD};
@@ -26,11 +26,13 @@ use calendar::Period;
 use refusal::Check;
 use verdict::Found;
 
-// Whether two lists, of one length, have the same numbers.
+// Whether two lists have the same numbers.
 fn same(a: &[u32], b: &[u32]) -> bool
-    requires { ⌜ length (now a) ≡ length (now b) ⌝ }
     ensures { λ r. ⌜ (r ≡ true) ↔ (now (a .entry) ≡ now (b .entry)) ⌝ }
 {
+    if a.len() != b.len() {
+        return false;
+    }
     let mut i: usize = 0;
     while i < a.len() {
         if a[i] != b[i] {
@@ -85,48 +87,53 @@ fn rank(s: State) -> u32
 fn same_states(a: [Stood; 32], b: [Stood; 32]) -> bool
     ensures { λ r. ⌜ (r ≡ true) ↔ (a ≡ b) ⌝ }
 {
-    let mut i: usize = 0;
-    while i < 32 {
-        let one = a[i];
-        let other = b[i];
-        if rank(one.state) != rank(other.state) {
+    let mut at: usize = 0;
+    while at < 32 {
+        let one = a[at];
+        let other = b[at];
+        let s = one.state;
+        let t = other.state;
+        if rank(s) != rank(t) {
             return false;
         }
-        i += 1;
+        at += 1;
     }
     true
 }
 
 // Whether a place has no direction and zeros.
-fn is_blank(p: Place) -> bool
-    ensures { λ r. ⌜ (r ≡ true) ↔ (withState Empty p ≡ empty) ⌝ }
+fn is_blank(place: Place) -> bool
+    ensures { λ r. ⌜ (r ≡ true) ↔ (withState Empty place ≡ empty) ⌝ }
 {
-    if p.directed {
+    if place.directed {
         return false;
     }
-    let none = book::empty_place();
-    let numbers = [p.kind, p.n, p.standing, p.regions, p.methods];
+    let numbers = [
+        place.kind,
+        place.n,
+        place.standing,
+        place.regions,
+        place.methods,
+    ];
     if !same(&numbers, &[0; 5]) {
         return false;
     }
-    let rates = p.rates;
-    let no_rates = none.rates;
-    if !same(&rates, &no_rates) {
+    let rates = place.rates;
+    if !same(&rates, &[0; 4]) {
         return false;
     }
-    let steps = p.steps;
-    if !same(&steps, &no_rates) {
+    let steps = place.steps;
+    if !same(&steps, &[0; 4]) {
         return false;
     }
-    let regional = p.regional;
-    let no_regional = none.regional;
-    same(&regional, &no_regional)
+    let regional = place.regional;
+    same(&regional, &[0; 14])
 }
 
 // Whether the tariff in a place is one that PUT accepts and that may be open: a sheet is loaded, and with its figures the tariff, unless it is
 // under a direction, exceeds in no offered cell.
 fn may_open(p: Place, loaded: bool, figures: Benchmarks) -> bool
-    requires { ⌜ loaded ≡ true → Lawful figures ⌝ }
+    requires { ⌜ (loaded ≡ true → Lawful figures) ⌝ }
     ensures { λ r. ⌜ ((s : Sheet) → (loaded ≡ true → figures ≡ figuresOf s) → (r ≡ true) ↔ (Recorded (tariffIn p) × MayOpen (sheetIf loaded s) (p .directed) (tariffIn p))) ⌝ }
 {
     let x = book::tariff_in(p);
@@ -148,7 +155,7 @@ fn may_open(p: Place, loaded: bool, figures: Benchmarks) -> bool
 
 // Whether what a place holds may stand there.
 fn place_stands(p: Place, loaded: bool, figures: Benchmarks) -> bool
-    requires { ⌜ loaded ≡ true → Lawful figures ⌝ }
+    requires { ⌜ (loaded ≡ true → Lawful figures) ⌝ }
     ensures { λ r. ⌜ ((s : Sheet) → (loaded ≡ true → figures ≡ figuresOf s) → (r ≡ true) ↔ MayStand (sheetIf loaded s) p) ⌝ }
 {
     let state = p.state;
@@ -162,8 +169,8 @@ fn place_stands(p: Place, loaded: bool, figures: Benchmarks) -> bool
 
 // Whether that holds of all 32.
 fn places_stand(places: [Place; 32], loaded: bool, figures: Benchmarks) -> bool
-    requires { ⌜ loaded ≡ true → Lawful figures ⌝ }
-    ensures { λ r. ⌜ ((s : Sheet) → (loaded ≡ true → figures ≡ figuresOf s) → (r ≡ true) ↔ ((i : ℕ) → i < 32 → MayStand (sheetIf loaded s) (getD places i beyond))) ⌝ }
+    requires { ⌜ (loaded ≡ true → Lawful figures) ⌝ }
+    ensures { λ r. ⌜ ((s : Sheet) → (loaded ≡ true → figures ≡ figuresOf s) → (r ≡ true) ↔ ((length places ≡ 32) × ((i : ℕ) → i < 32 → MayStand (sheetIf loaded s) (getD places i beyond)))) ⌝ }
 {
     let mut i: usize = 0;
     while i < 32 {
@@ -191,7 +198,6 @@ fn sheet_stands(fields: &[u32], period: Period, figures: Benchmarks) -> bool
 
 // Whether there is no sheet: all beside the places is as in a fresh book.
 fn no_sheet(fields: &[u32], period: Period, figures: Benchmarks) -> bool
-    requires { ⌜ length (now fields) ≡ length (fresh .fields) ⌝ }
     ensures { λ r. ⌜ (r ≡ true) ↔ ((now (fields .entry) ≡ fresh .fields) × (period ≡ fresh .period) × (figures ≡ fresh .benchmarks)) ⌝ }
 {
     let none = book::fresh_book();

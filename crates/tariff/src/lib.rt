@@ -1,7 +1,7 @@
 // A tariff: its record of 27 numbers, the standing charge of each region, and refusal 8.
 // Promise: `check` is refusal 8, "not such a record, its length included", for any list of numbers; `standing_in` is what a valid tariff
 // charges a day in a region. What the layer above may use: `Tariff`, `tariffOf`, `standingIn`, `validTariff` and `recordCheck` of
-// specs/Tariff.antt, `has`, and the laws of a valid tariff in proofs/Validity.antt.
+// specs/Tariff.antt, `has`, `is_valid`, and the laws of a valid tariff in proofs/Validity.antt.
 ghost use mathlib.Core.Path.{_≡_};
 ghost use mathlib.Core.Bool.{true, _&&_, _||_};
 ghost use Prim.Native.Nat.{_+_, _≤_, _<_};

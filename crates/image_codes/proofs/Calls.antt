@@ -6,25 +6,29 @@ use mathlib.Core.Bool.{Bool, true, false, cond}
 use mathlib.Core.List.{List}
 use mathlib.Core.Logic.{_≢_}
 use Prim.Native.Nat.{ℕ, suc, _<_}
-use lib.ListN.{getD}
+use lib.ListN.{length}
 use native.Mathlib.Omega.{arith}
 use Rattle.laws.proofs.Never.{never}
 use Rattle.refusal.specs.declared.Check.{Check}
 use Rattle.refusal.specs.declared.Check.the-variants.{Pass}
 use Rattle.refusal.specs.Checks.{checked}
+use Rattle.refusal.proofs.Checks.{first-passes}
+use Rattle.tariff.specs.Tariff.{recordLength, recordCheck}
 use Rattle.benchmark.specs.declared.Benchmarks.{Benchmarks}
 use Rattle.book.specs.declared.Reply.{Reply}
 use Rattle.book.specs.declared.Reply.the-variants as reply
 use Rattle.book.specs.declared.Place.{Place}
 use Rattle.book.specs.declared.Settled.{Settled}
 use Rattle.book.specs.declared.Book.{Book}
-use Rattle.book.specs.Calls.{Call, Answer, refused, isAccepted}
+use Rattle.book.specs.Calls.{Record, Call, Answer, accepted, refused, isAccepted}
 use Rattle.book.specs.Checks.{inside}
 use Rattle.book.specs.Book.{nothingKept, setPlace, withPlaces, withPlace, step, Reachable}
 use Rattle.book.specs.Promises.{answerOf, Does}
-use Rattle.book.specs.Settling.{acceptedBy, settledIn, Settles, HasPlace}
+use Rattle.book.specs.Settling.{codeCheck, openCheck, acceptedBy, settledIn, Settles, HasPlace}
+use Rattle.book.proofs.Places.{record-length}
 use Rattle.book.proofs.Accepted.{checked-accepted}
 use Rattle.book.proofs.Steps.{unchanged, answered-by}
+use Rattle.putting.specs.Putting.{putChecks}
 use Rattle.image.specs.Layout.{loadedAt, startOf}
 use Rattle.image.specs.Image.{word, flagOf, placeAt, figuresIn, bookIn, isImage}
 use Rattle.image.specs.Changing.{noBook, numberOf, Changes}
@@ -68,6 +72,14 @@ module _ (check : Check) (next : Answer) (before after : Place) (r : Settled) (h
 
   pub settled-passes : check ≡ Pass
   settled-passes = checked-accepted check next has-accepted .0
+
+-- a record that PUT accepts passes refusal 8, and so has its 27 numbers
+pub put-length : (desk k : ℕ) (p q : Place) (x : Record) (r : Settled) → Settles (putChecks desk k p x) accepted p q r → acceptedBy (r .reply) ≡ true
+    → length x ≡ recordLength
+put-length desk k p q x r h e =
+    let past-6 = first-passes (codeCheck k) _ (settled-passes (putChecks desk k p x) accepted p q r h e) .1 in
+    let past-7 = first-passes (openCheck (p .state)) _ past-6 .1 in
+    record-length x (first-passes (recordCheck x) _ past-7 .0)
 
 accepted-number : (q : Reply) (months : List ℕ) → acceptedBy q ≡ true → numberOf (answerOf q months) ≡ 0
 accepted-number reply.Accepted months e = refl

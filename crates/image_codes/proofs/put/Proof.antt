@@ -5,18 +5,16 @@ use mathlib.Core.Bool.{true, false}
 use native.Mathlib.Omega.{arith}
 use borrow.Author.Needs.{needs}
 use borrow.Author.Tests.{not-true, not-false}
-use Rattle.refusal.proofs.Checks.{first-passes}
 use Rattle.book.specs.Calls.{PUT, by}
 use Rattle.book.specs.Book.{Reachable}
 use Rattle.book.specs.Promises.{Does}
-use Rattle.book.specs.Settling.{codeCheck, openCheck, acceptedBy, settledIn}
+use Rattle.book.specs.Settling.{acceptedBy, settledIn}
 use lib.ListN.{length}
-use Rattle.tariff.specs.Tariff.{recordLength, recordCheck}
+use Rattle.tariff.specs.Tariff.{recordLength}
 use Rattle.image.specs.Layout.{loadedAt, startOf}
 use Rattle.image.specs.Image.{word, flagOf, placeAt, figuresIn, bookIn, isImage}
-use Rattle.book.proofs.Places.{record-length}
 use Rattle.image.proofs.Reading.{image-size}
-use Rattle.image_codes.proofs.Calls.{no-image, has-place, settled-place, settled-passes, refused-on, accepted-on}
+use Rattle.image_codes.proofs.Calls.{no-image, has-place, settled-place, put-length, refused-on, accepted-on}
 use Rattle.image_codes.proofs.put.Statement.{statement}
 use Rattle.image_codes.proofs.put.Tie as tie
 
@@ -81,14 +79,10 @@ returns-2 c =
 taken : (c : tie.Else2) → acceptedBy (c .before .before .put-at .result .reply) ≡ true
 taken c = sym (c .before .accepted-by .ensures) ∙ not-false _ (c .if2 .left)
 
--- a record that PUT accepts passes refusal 8
 full : (c : tie.Else2) → length (start (c .before .before) .args .x .now) ≡ recordLength
 full c =
     let s = c .before .before in
-    let x = start s .args .x .now in
-    let past-6 = first-passes (codeCheck (start s .args .code)) _ (settled-passes _ _ _ _ _ (s .put-at .ensures .0) (taken c)) .1 in
-    let past-7 = first-passes (openCheck (s .before .place-at .result .state)) _ past-6 .1 in
-    record-length x (first-passes (recordCheck x) _ past-7 .0)
+    put-length (start s .args .desk) (start s .args .code) _ _ (start s .args .x .now) _ (s .put-at .ensures .0) (taken c)
 
 store-draft-requires : tie.Need-store-draft-requires
 store-draft-requires c κs =

@@ -13,7 +13,7 @@ ghost use Rattle.benchmark.specs.Benchmark.{benchmarksOf, setCheck};
 ghost use Rattle.book.specs.declared.State.the-variants.{Empty};
 ghost use Rattle.book.specs.Calls.{Sheet, SET};
 ghost use Rattle.book.specs.Checks.{figuresOf};
-ghost use Rattle.book.specs.Book.{empty, beyond, tariffIn, withState, fresh, nothingKept, sheetIf, sheetIn, restored, changed, Reachable};
+ghost use Rattle.book.specs.Book.{empty, beyond, tariffIn, placeWith, fresh, nothingKept, sheetIf, sheetIn, restored, changed, Reachable};
 ghost use Rattle.stands.specs.Stands.{Recorded, MayOpen, MayStand, Fits};
 ghost use Rattle.standing.specs.Standing.{rank};
 use benchmark::Benchmarks;
@@ -24,6 +24,7 @@ use book::State;
 use book::Stood;
 use calendar::Period;
 use refusal::Check;
+use tariff::Tariff;
 use verdict::Found;
 
 // Whether two lists have the same numbers.
@@ -101,32 +102,26 @@ fn same_states(a: [Stood; 32], b: [Stood; 32]) -> bool
     true
 }
 
-// Whether a place has no direction and zeros.
-fn is_blank(place: Place) -> bool
-    ensures { λ r. ⌜ (r ≡ true) ↔ (withState Empty place ≡ empty) ⌝ }
+// Whether an empty place has no direction and zeros.
+fn is_blank(directed: bool, x: Tariff) -> bool
+    ensures { λ r. ⌜ (r ≡ true) ↔ (placeWith Empty directed x ≡ empty) ⌝ }
 {
-    if place.directed {
+    if directed {
         return false;
     }
-    let numbers = [
-        place.kind,
-        place.n,
-        place.standing,
-        place.regions,
-        place.methods,
-    ];
+    let numbers = [x.kind, x.n, x.standing, x.regions, x.methods];
     if !same(&numbers, &[0; 5]) {
         return false;
     }
-    let rates = place.rates;
+    let rates = x.rates;
     if !same(&rates, &[0; 4]) {
         return false;
     }
-    let steps = place.steps;
+    let steps = x.steps;
     if !same(&steps, &[0; 4]) {
         return false;
     }
-    let regional = place.regional;
+    let regional = x.regional;
     same(&regional, &[0; 14])
 }
 
@@ -159,9 +154,11 @@ fn place_stands(p: Place, loaded: bool, figures: Benchmarks) -> bool
     ensures { λ r. ⌜ ((s : Sheet) → (loaded ≡ true → figures ≡ figuresOf s) → (r ≡ true) ↔ MayStand (sheetIf loaded s) p) ⌝ }
 {
     let state = p.state;
+    let directed = p.directed;
+    let x = book::tariff_in(p);
     match state {
-        State::Empty => is_blank(p),
-        State::Draft => tariff::is_valid(book::tariff_in(p)),
+        State::Empty => is_blank(directed, x),
+        State::Draft => tariff::is_valid(x),
         State::Marked => may_open(p, loaded, figures),
         State::Open => may_open(p, loaded, figures),
     }

@@ -62,7 +62,7 @@ returns-5 c =
     let e2 = e3 .before .before .before .before .before in
     let e1 = e2 .before .before .before .before in
     decides _ (c .same4 .ensures)
-    (blank (e1 .before .args .place) (e1 .if1 .left) (held _ (e2 .before .same .ensures) (e2 .if2 .left)) (held _ (e3 .before .same2 .ensures) (e3 .if3 .left))
+    (blank (e1 .before .args .directed) (e1 .before .args .x) (e1 .if1 .left) (held _ (e2 .before .same .ensures) (e2 .if2 .left)) (held _ (e3 .before .same2 .ensures) (e3 .if3 .left))
     (held _ (e4 .before .same3 .ensures) (e4 .if4 .left)))
     (ap (λ q. q .regional))
 

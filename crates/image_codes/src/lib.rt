@@ -115,8 +115,8 @@ pub fn put(image: &mut [u32], desk: u32, code: u32, x: &[u32]) -> u32
     }
     let i = checks::index_of(code);
     let p = image::place_at(&image[..], image::start_of(i));
-    let settled = putting::put_at(desk, code, p, x);
-    let reply = settled.reply;
+    let drafted = putting::put_at(desk, code, p, x);
+    let reply = drafted.reply;
     if !book::accepted_by(reply) {
         return image::number_of(reply);
     }

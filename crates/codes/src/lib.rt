@@ -3,7 +3,7 @@
 // exceeds, t months and their excess. `act_on` is their one body: they differ in what they do to one place. OPEN and ASK, which share their
 // checks, require document 01's own sentence on the book, `Reachable`; the others require nothing. Who holds a book in a local of their own may
 // settle a place (`settle`) and store it, which copies no book and is the same call: its contract says so of every book that has the place
-// (`HasPlace` of the book's definitions).
+// (`HasPlace` of the book's definitions). `close_at` and `drop_at` are for who has only the place at hand.
 ghost use mathlib.Core.Bool.{Bool};
 ghost use Prim.Native.Nat.{ℕ};
 ghost use Rattle.benchmark.specs.declared.Benchmarks.{Benchmarks};

@@ -1,17 +1,17 @@
 -- The book that an image holds, where part of its words stayed and part was written.
 -- Assumes nothing.
-use mathlib.Core.Path.{_≡_, refl, sym, _∙_, ap, ap₂}
+use mathlib.Core.Path.{_≡_, refl, _∙_, ap₂}
 use mathlib.Core.Bool.{_&&_}
-use mathlib.Core.List.{List, map}
+use mathlib.Core.List.{List}
 use mathlib.Core.Logic.{_⊎_}
 use Prim.Native.Nat.{ℕ, suc, _+_, _≤_, _<_}
 use native.Mathlib.Omega.{arith}
 use lib.Dec.{eqb}
 use lib.ListN.{length}
 use Rattle.sheet.specs.Sheet.{fieldCount}
-use Rattle.book.specs.Book.{stoodAs, nothingKept, withPlaces, withPlace}
-use Rattle.image.specs.Layout.{wordCount, mark, fieldsAt, chargesAt, levelsAt, peakAt, monthsAt, daysAt, periodAt, loadedAt, keptAt, keptLoadedAt, keptFieldsAt, keptPeriodAt, keptStatesAt, keptWords, placesAt, placeWords, startOf}
-use Rattle.image.specs.Image.{word, words, stateOf, placeAt, figuresIn, placesIn, statesIn, keptIn, bookIn, isImage}
+use Rattle.book.specs.Book.{nothingKept, withPlaces, withPlace}
+use Rattle.image.specs.Layout.{wordCount, mark, fieldsAt, chargesAt, levelsAt, peakAt, monthsAt, daysAt, periodAt, loadedAt, keptAt, keptLoadedAt, keptFieldsAt, keptPeriodAt, keptStatesAt, placesAt, placeWords, startOf}
+use Rattle.image.specs.Image.{word, placeAt, figuresIn, placesIn, statesIn, keptIn, bookIn, isImage}
 use Rattle.image.proofs.Reading.{words-alike, words-nought}
 use Rattle.image.proofs.Places.{places-written}
 

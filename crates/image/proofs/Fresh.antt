@@ -1,18 +1,17 @@
 -- An image of zeros behind its mark holds a fresh book.
 -- Assumes nothing.
-use mathlib.Core.Path.{_≡_, refl, sym, _∙_}
+use mathlib.Core.Path.{_≡_, sym, _∙_}
 use mathlib.Core.Bool.{true}
 use mathlib.Core.List.{List}
 use Prim.Native.Nat.{ℕ, _+_, _≤_, _<_}
 use native.Mathlib.Omega.{arith}
-use lib.ListN.{length, getD, replicate, length-replicate, getD-replicate}
+use lib.ListN.{length, replicate, length-replicate, getD-replicate}
 use lib.Seq.{ext-getD}
 use borrow.Author.Tests.{eq-eqb}
 use Rattle.sheet.specs.Sheet.{fieldCount}
-use Rattle.book.specs.declared.Place.{Place}
 use Rattle.book.specs.Book.{empty, beyond, fresh}
 use Rattle.image.specs.Layout.{wordCount, mark, loadedAt, fieldsAt, periodAt, chargesAt, levelsAt, peakAt, monthsAt, daysAt, keptAt, keptLoadedAt, keptStatesAt, startOf}
-use Rattle.image.specs.Image.{word, words, placeAt, figuresIn, placesIn, bookIn, isImage, Canonical}
+use Rattle.image.specs.Image.{word, figuresIn, placesIn, bookIn, isImage, Canonical}
 use Rattle.image.proofs.Reading.{words-nought}
 use Rattle.image.proofs.Places.{length-places, place-there}
 use Rattle.image.proofs.Books.{kept-nought}

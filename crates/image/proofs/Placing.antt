@@ -1,6 +1,6 @@
 -- A place of an image, as it is read after words of it were written.
 -- Assumes nothing.
-use mathlib.Core.Path.{_≡_, refl, sym, _∙_, ap}
+use mathlib.Core.Path.{_≡_, refl, _∙_}
 use mathlib.Core.Bool.{false}
 use mathlib.Core.List.{List}
 use mathlib.Core.Logic.{_⊎_, inl, inr}
@@ -11,7 +11,7 @@ use Rattle.tariff.specs.Tariff.{recordLength, tariffOf}
 use Rattle.book.specs.declared.State.the-variants.{Draft}
 use Rattle.book.specs.Book.{placeWith, withState, withDirection, empty}
 use Rattle.image.specs.Layout.{placeWords, recordAt}
-use Rattle.image.specs.Image.{word, words, stateOf, placeAt}
+use Rattle.image.specs.Image.{word, stateOf, placeAt}
 use Rattle.image.specs.Changing.{Written}
 use Rattle.image.proofs.Reading.{words-alike, are-words, words-nought}
 

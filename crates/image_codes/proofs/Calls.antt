@@ -1,10 +1,9 @@
 -- A call on a code, settled on the place that an image has there: what `Changes` asks where there is no image, where it is refused and where
 -- its place is stored.
 -- Assumes nothing.
-use mathlib.Core.Path.{_≡_, refl, sym, _∙_, ap, ap₂, subst}
+use mathlib.Core.Path.{_≡_, refl, sym, _∙_, ap, ap₂}
 use mathlib.Core.Bool.{Bool, true, false, cond}
 use mathlib.Core.List.{List}
-use mathlib.Core.Logic.{_≢_}
 use Prim.Native.Nat.{ℕ, suc, _<_}
 use lib.ListN.{length}
 use native.Mathlib.Omega.{arith}
@@ -19,10 +18,9 @@ use Rattle.book.specs.declared.Reply.{Reply}
 use Rattle.book.specs.declared.Reply.the-variants as reply
 use Rattle.book.specs.declared.Place.{Place}
 use Rattle.book.specs.declared.Settled.{Settled}
-use Rattle.book.specs.declared.Book.{Book}
 use Rattle.book.specs.Calls.{Record, Call, Answer, accepted, refused, isAccepted}
 use Rattle.book.specs.Checks.{inside}
-use Rattle.book.specs.Book.{nothingKept, setPlace, withPlaces, withPlace, step, Reachable}
+use Rattle.book.specs.Book.{nothingKept, setPlace, withPlaces, step, Reachable}
 use Rattle.book.specs.Promises.{answerOf, Does}
 use Rattle.book.specs.Settling.{codeCheck, openCheck, acceptedBy, settledIn, Settles, HasPlace}
 use Rattle.book.proofs.Places.{record-length}

@@ -7,7 +7,6 @@ use mathlib.Core.Logic.{_≢_}
 use mathlib.Core.Option.{Option, none, some}
 use Prim.Native.Nat.{ℕ, _≤_, _<_}
 use native.Mathlib.Omega.{arith}
-use lib.ListN.{replicate}
 use borrow.Author.Tests.{ne-eqb}
 use Rattle.laws.proofs.Never.{never}
 use Rattle.laws.proofs.Lists.{noughts}
@@ -22,7 +21,7 @@ use Rattle.book.specs.declared.Place.{Place}
 use Rattle.book.specs.declared.Settled.{Settled}
 use Rattle.book.specs.declared.Book.{Book}
 use Rattle.book.specs.Calls.{Sheet, Call, by, Answer, accepted, cells, refused, over}
-use Rattle.book.specs.Checks.{Holding, inside, figuresOf, verdictAnswer, openedAs, confirmedAs, mayUseHeld, openAnswer, confirmAnswer}
+use Rattle.book.specs.Checks.{Holding, inside, figuresOf, verdictAnswer, mayUseHeld, openAnswer, confirmAnswer}
 use Rattle.book.specs.Book.{held, placeOf, inForce, withState, step, Reachable}
 use Rattle.book.specs.Promises.{answerOf, NoughtPast, Does}
 use Rattle.book.specs.Settling.{acceptedBy, settledIn}

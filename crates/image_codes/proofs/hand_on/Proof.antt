@@ -1,10 +1,8 @@
 -- `image_codes::hand_on` meets its contract.
 -- Assumes nothing.
-use mathlib.Core.Path.{_≡_, refl, sym, _∙_}
-use mathlib.Core.Bool.{true, false}
+use mathlib.Core.Path.{refl, sym, _∙_}
 use borrow.Author.Needs.{needs}
 use borrow.Author.Tests.{not-true, not-false}
-use Rattle.book.specs.Settling.{acceptedBy}
 use Rattle.image_codes.proofs.Opening.{clash}
 use Rattle.image_codes.proofs.hand_on.Statement.{statement}
 use Rattle.image_codes.proofs.hand_on.Tie as tie

@@ -1,7 +1,7 @@
 -- `image_codes::judged` meets its contract: what the tests let pass is settled and handed on, and what they do not is no reachable book.
 -- Assumes nothing.
 use mathlib.Core.Path.{_≡_, refl, sym, _∙_, ap, subst}
-use mathlib.Core.Bool.{true, false}
+use mathlib.Core.Bool.{true}
 use Prim.Native.Nat.{_≤_}
 use native.Mathlib.Omega.{arith}
 use borrow.Author.Needs.{needs}
@@ -14,7 +14,7 @@ use Rattle.book.specs.Settling.{settledIn}
 use Rattle.stands.specs.Stands.{HoldsValid}
 use Rattle.codes.specs.Codes.{actOn}
 use Rattle.image.specs.Layout.{loadedAt, startOf}
-use Rattle.image.specs.Image.{word, flagOf, placeAt, figuresIn, bookIn, isImage}
+use Rattle.image.specs.Image.{word, flagOf, placeAt, bookIn, isImage}
 use Rattle.image.proofs.Reading.{image-size}
 use Rattle.image_tests.proofs.Reachable.{figures-there, holds-there}
 use Rattle.image_codes.specs.Opening.{HandedOn}

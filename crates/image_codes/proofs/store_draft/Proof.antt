@@ -6,7 +6,6 @@ use Prim.Native.Nat.{ℕ, _+_}
 use native.Mathlib.Omega.{arith}
 use lib.ListN.{length, set, length-set}
 use borrow.Author.Needs.{needs}
-use Rattle.image.specs.Layout.{wordCount}
 use Rattle.image_codes.proofs.Storing.{draft-stored}
 use Rattle.image_codes.proofs.store_draft.Statement.{statement}
 use Rattle.image_codes.proofs.store_draft.Tie as tie

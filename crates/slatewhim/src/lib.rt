@@ -38,17 +38,6 @@ pub extern "C" fn slatewhim_check(book: &[u32]) -> u32
     image_check::check(book)
 }
 
-// A period of its three numbers.
-fn period_of(year: u32, month: u32, months: u32) -> Period
-    ensures { λ r. ⌜ r ≡ periodOf year month months ⌝ }
-{
-    Period {
-        year,
-        month,
-        months,
-    }
-}
-
 // SET, TRIAL and UNDO.
 #[no_mangle]
 pub extern "C" fn slatewhim_set(
@@ -61,7 +50,11 @@ pub extern "C" fn slatewhim_set(
 ) -> u32
     ensures { λ r. ⌜ Changes (by desk (SET (sheetAt (now (fields .entry)) (periodOf year month months)))) (now (book .entry)) r (now (book .exit)) ⌝ }
 {
-    let period = period_of(year, month, months);
+    let period = Period {
+        year,
+        month,
+        months,
+    };
     image_sheets::set(book, desk, fields, period)
 }
 
@@ -76,7 +69,11 @@ pub extern "C" fn slatewhim_trial(
 ) -> Falling
     ensures { λ r. ⌜ Tells (now (book .entry)) desk (sheetAt (now (fields .entry)) (periodOf year month months)) r ⌝ }
 {
-    let period = period_of(year, month, months);
+    let period = Period {
+        year,
+        month,
+        months,
+    };
     image_sheets::trial(book, desk, fields, period)
 }
 

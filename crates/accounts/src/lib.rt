@@ -3,6 +3,8 @@
 // own sentence on the book, `Reachable`. The borrow checker covers no function over a slice of structs, so each of these is proved by a walk of
 // its code, by hand. They are thin: what is worked out for an account is worked out by crate rebates, by value. The book is not copied
 // for each account. `run_first` and `run_many` take an array by value, so that whoever calls them needs no walk.
+#![tactic(auto)]
+
 ghost use Rattle.std.specs.Prelude.{◌≡◌, map, ◌++◌, ◌<◌, ◌≤◌, length, get_or, set, take, drop};
 ghost use Rattle.book.specs.Book.{Reachable};
 ghost use Rattle.rebates.specs.Rebates.{with_rebate, repaid, first_place, total_of, run_of, after_run, places_most};
@@ -73,7 +75,7 @@ pub fn run(b: Book, desk: u32, accounts: &mut [Account]) -> Run
 }
 
 // The answer of a run over the first accounts of an array, beside the array as the run leaves it.
-#[derive(Drop)]
+#[derive(Clone, Copy)]
 pub struct Ran {
     pub answer: Run,
     pub accounts: [Account; 1024],
@@ -96,7 +98,7 @@ pub fn run_first(b: Book, desk: u32, accounts: [Account; 1024], n: usize) -> Ran
 }
 
 // The same of a large array.
-#[derive(Drop)]
+#[derive(Clone, Copy)]
 pub struct RanMany {
     pub answer: Run,
     pub accounts: [Account; 10000],

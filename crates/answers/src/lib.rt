@@ -2,6 +2,8 @@
 // Promise: each function puts exactly the text that specs/Answers.antt defines (`Puts` of texts). The layer above may use `put_reply`, for a
 // call that may change the book, and `put_told`, for one that tells of it; they require `step_room` and `short_room`, room for the longest
 // answer of each. `answer_room` is room for any answer, that of REBATE included.
+#![tactic(auto)]
+
 ghost use Rattle.std.specs.Prelude.{◌≡◌, [], ◌∷◌, ◌+◌, ◌≤◌, pos, length, take};
 ghost use Rattle.verdict.specs.Cells.{cell};
 ghost use Rattle.book.specs.Calls.{over};

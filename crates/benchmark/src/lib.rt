@@ -3,6 +3,8 @@
 // is its sum, NC and PANC (proofs/Commons.antt, `benchmark_is_sum`). `ocs_fit` is refusal 14, turned round; where it lets a sheet pass, no part
 // is below zero (specs/Signs.antt). What the layer above may use: `benchmark`, `figures`, `benchmarks_of` and `set_check` of
 // specs/Benchmark.antt, `Lawful` of specs/Lawful.antt, and `commons`.
+#![tactic(auto)]
+
 ghost use Rattle.std.specs.Prelude.{◌≡◌, ◌*◌, ◌≤◌, ◌<◌, pos, nat_abs};
 ghost use Rattle.laws.specs.Notions.{tabulate};
 ghost use Rattle.sheet.specs.Sheet.{round};
@@ -13,7 +15,7 @@ ghost use Rattle.benchmark.specs.Signs.{Costed};
 
 // What a sheet and its period come to: the 112 charges by region, arrangement, method and level; m of each arrangement;
 // the peak share of Economy 7; t; and the days.
-#[derive(Drop)]
+#[derive(Clone, Copy)]
 pub struct Benchmarks {
     pub charges: [u32; 112],
     pub levels: [u32; 2],

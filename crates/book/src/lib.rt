@@ -2,6 +2,8 @@
 // Promise: specs/Book.antt says what each call answers and leaves (`step`), and `Does` of specs/Promises.antt is what a call promises of it.
 // What the layer above may use: the types, `settled_by` and `answered`; proofs/Steps.antt, which turns what a call's checks came
 // to into `Does`; and proofs/Reached.antt, lists of calls. The book goes into a call by value and comes back.
+#![tactic(auto)]
+
 ghost use Rattle.std.specs.Prelude.{◌≡◌, ◌&&◌};
 ghost use Rattle.book.specs.Settling.{reply_of, settled_by, done_by, accepted_by};
 ghost use Rattle.book.specs.Book.{empty, fresh, nothing_kept, place_with, tariff_in, with_state};
@@ -13,7 +15,7 @@ use sheet::FIELD_COUNT;
 use tariff::Tariff;
 
 // A place holds nothing, a draft, a marked draft or an open tariff.
-#[derive(Drop)]
+#[derive(Clone, Copy)]
 pub enum State {
     Empty,
     Draft,
@@ -22,7 +24,7 @@ pub enum State {
 }
 
 // A place: its state, and whether its tariff is under a direction, beside the tariff's numbers and arrays.
-#[derive(Drop)]
+#[derive(Clone, Copy)]
 pub struct Place {
     pub state: State,
     pub directed: bool,
@@ -37,13 +39,13 @@ pub struct Place {
 }
 
 // The state that a place had.
-#[derive(Drop)]
+#[derive(Clone, Copy)]
 pub struct Stood {
     pub state: State,
 }
 
 // What UNDO takes back, if there is any: the sheet before, with its period, or none, and the state of each place. Else zeros.
-#[derive(Drop)]
+#[derive(Clone, Copy)]
 pub struct Kept {
     pub any: bool,
     pub loaded: bool,
@@ -53,7 +55,7 @@ pub struct Kept {
 }
 
 // 32 places; a sheet with its period, or none; what they come to; and what is kept for UNDO.
-#[derive(Drop)]
+#[derive(Clone, Copy)]
 pub struct Book {
     pub loaded: bool,
     pub fields: [u32; FIELD_COUNT],
@@ -65,7 +67,7 @@ pub struct Book {
 
 // An answer: accepted; accepted, with the number of cells; refused, with its number; or refused by 11, with region, method, the
 // number of months that stand beside it, and the excess.
-#[derive(Drop)]
+#[derive(Clone, Copy)]
 pub enum Reply {
     Accepted,
     Cells(u32),
@@ -74,7 +76,7 @@ pub enum Reply {
 }
 
 // What a call on one place comes to: its answer, the months of answer 11, and the place after the call.
-#[derive(Drop)]
+#[derive(Clone, Copy)]
 pub struct Settled {
     pub reply: Reply,
     pub months: [u32; 12],
@@ -82,7 +84,7 @@ pub struct Settled {
 }
 
 // A call's answer, the months of answer 11, and the book after the call.
-#[derive(Drop)]
+#[derive(Clone, Copy)]
 pub struct Done {
     pub reply: Reply,
     pub months: [u32; 12],

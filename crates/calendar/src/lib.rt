@@ -1,11 +1,13 @@
 // The month table: a period of whole calendar months, and its days.
 // Promise: `days` is the difference of two entries of the table, and each entry differs from the next by that month's
 // Gregorian length (proofs/Table.antt, `entry`: computed once over all 996 entries).
+#![tactic(auto)]
+
 ghost use Rattle.std.specs.Prelude.{◌≡◌, true, ◌≤◌};
 ghost use Rattle.calendar.specs.Calendar.{period_in_range, period_days};
 
 // A start year, a start month from 1 to 12, and t, the number of months.
-#[derive(Drop)]
+#[derive(Clone, Copy)]
 pub struct Period {
     pub year: u32,
     pub month: u32,

@@ -3,6 +3,8 @@
 // gives the months of answer 11 and their excess; `sides_of` gives QUOTE's two numbers, and `maximum_of` MAXIMUM's. Each kWh is
 // charged by `charge::charge_for` and allowed by `allowed_for`. What the layer above may use: `Exceeds`, `excess`, `worst_months` of
 // specs/Cap.antt, `exceeds?` of specs/Decided.antt, `Fits` and `Carries` of specs/Corners.antt, and the theorems in proofs/Worst.antt.
+#![tactic(auto)]
+
 ghost use Rattle.std.specs.Prelude.{◌≡◌, true, ◌++◌, ℕ, ◌+◌, ◌-◌, ◌*◌, ◌≤◌, ◌<◌, length, get_or, drop, replicate};
 ghost use Rattle.laws.specs.Notions.{sum};
 ghost use Rattle.laws.proofs.Greatest.{better};
@@ -32,7 +34,7 @@ const ROOM: u64 = SCALE * BENCHMARK_MOST * MONTH_MOST;
 
 // The numbers of a cell: N and M, the benchmarks at nil and at m; m; t; the days; the standing charge that counts there; and the
 // peak share of Economy 7.
-#[derive(Drop)]
+#[derive(Clone, Copy)]
 pub struct CellNumbers {
     pub lower: u64,
     pub upper: u64,
@@ -44,7 +46,7 @@ pub struct CellNumbers {
 }
 
 // The charge and the maximum, each times the scale.
-#[derive(Drop)]
+#[derive(Clone, Copy)]
 pub struct Sides {
     pub charged: u64,
     pub capped: u64,
@@ -52,21 +54,21 @@ pub struct Sides {
 
 // The consumptions, beside 0, at which a month's share may be greatest: each step, and the end in every place that is left; and a
 // month's charge at each, times the scale.
-#[derive(Drop)]
+#[derive(Clone, Copy)]
 pub struct Corners {
     pub at: [u64; 4],
     pub charged: [u64; 4],
 }
 
 // A month, and its share raised by the most that the cap allows for a month's kWh, so that it is not below 0.
-#[derive(Drop)]
+#[derive(Clone, Copy)]
 pub struct Share {
     pub month: u64,
     pub raised: u64,
 }
 
 // The worst month, and both sides of the comparison for t of it, raised by as much.
-#[derive(Drop)]
+#[derive(Clone, Copy)]
 pub struct Comparison {
     pub month: u64,
     pub charged: u64,
@@ -74,7 +76,7 @@ pub struct Comparison {
 }
 
 // The months of answer 11, in the first t places, and their excess.
-#[derive(Drop)]
+#[derive(Clone, Copy)]
 pub struct WorstCase {
     pub months: [u32; 12],
     pub excess: u64,

@@ -2,6 +2,8 @@
 // Promise: `charge_of` gives the charge of a lent list of months, times the whole of the shares, since a weighted rate is a fraction
 // of a mill. What the layer above may use: `month_charge`, `charge` and `arrangement` of specs/Charge.antt, the charge helper
 // `charge_for`, `tiers_of` with specs/Tiers.antt and Most.antt, and the laws in proofs/.
+#![tactic(auto)]
+
 ghost use Rattle.std.specs.Prelude.{◌≡◌, true, ℕ, ◌+◌, ◌-◌, ◌*◌, ◌≤◌, ◌<◌, min, length, get_or, take};
 ghost use Rattle.laws.specs.Notions.{sum};
 ghost use Rattle.shares.specs.Shares.{whole_share, weighted};
@@ -14,14 +16,14 @@ use shares::{WHOLE, WHOLE_SHARE};
 use tariff::Tariff;
 
 // A charge is counted in mills and a consumption in kWh.
-#[derive(Drop)]
+#[derive(Clone, Copy)]
 pub struct Mills(pub u64);
 
-#[derive(Drop)]
+#[derive(Clone, Copy)]
 pub struct Kwh(pub u64);
 
 // What a tariff of any kind charges for a month's kWh: n rates times the whole of the shares, all but the last up to a step.
-#[derive(Drop)]
+#[derive(Clone, Copy)]
 pub struct Tiers {
     pub n: usize,
     pub rates: [u64; 4],

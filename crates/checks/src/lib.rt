@@ -1,5 +1,7 @@
 // The checks that the calls on a code share: 6, 9, 7, 12, 16 and 10, and the index of a code's place.
 // Promise: each equals its definition in the book's specs/Settling.antt, for every code and every place.
+#![tactic(auto)]
+
 ghost use Rattle.std.specs.Prelude.{◌≡◌, true, suc, ◌<◌};
 ghost use Rattle.refusal.specs.declared.Check.TheVariants.{Pass};
 ghost use Rattle.refusal.specs.Checks.{unless};

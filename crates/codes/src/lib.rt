@@ -4,6 +4,8 @@
 // checks, require document 01's own sentence on the book, `Reachable`; the others require nothing. Who holds a book in a local of their own may
 // settle a place (`settle`) and store it, which copies no book and is the same call: its contract says so of every book that has the place
 // (`HasPlace` of the book's definitions). `close_at` and `drop_at` are for who has only the place at hand.
+#![tactic(auto)]
+
 ghost use Rattle.std.specs.Prelude.{Bool, ℕ};
 ghost use Rattle.benchmark.specs.declared.Benchmarks.{Benchmarks};
 ghost use Rattle.book.specs.declared.Book.{Book};
@@ -16,7 +18,7 @@ use benchmark::Benchmarks;
 use book::{Book, Done, Place, Settled, State};
 
 // The calls that take a code alone.
-#[derive(Drop)]
+#[derive(Clone, Copy)]
 pub enum CodeAct {
     Open,
     Close,

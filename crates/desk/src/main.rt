@@ -7,6 +7,8 @@
 // No contract can say which bytes the system's `read` and `write` move, nor what they answer. So it is left to a reader of `read_more`
 // and `flush`, which alone call them, that the one reads standard input into the place behind what was kept, that the other writes the
 // first `at` bytes of the output, and that each hands the answer on to `after_read` or `after_write` of `input`; those two are proved.
+#![tactic(auto)]
+
 ghost use Rattle.std.specs.Prelude.{◌≡◌, ◌≤◌, ◌<◌, length};
 ghost use Rattle.lines.specs.Words.{longest_line};
 ghost use Rattle.input.specs.Input.{Holds};

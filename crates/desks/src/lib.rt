@@ -1,6 +1,8 @@
 // Desks: a desk is a set of regions, bits as in a tariff, and refusal 17 is what it meets outside them.
 // Promise: each function equals its definition in specs/Desks.antt, for every number in place of a desk. What the layer above may use: the
 // three checks of 17. A desk with all fourteen regions, `tariff::ALL_FOURTEEN`, is refused nothing.
+#![tactic(auto)]
+
 ghost use Rattle.std.specs.Prelude.{◌≡◌, not, ◌||◌, ◌<◌};
 ghost use Rattle.laws.specs.Notions.{bit};
 ghost use Rattle.refusal.specs.declared.Check.TheVariants.{Pass};

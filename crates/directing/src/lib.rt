@@ -3,6 +3,8 @@
 // desk with all fourteen regions may: 17 to any other, before everything else. Who holds a book in a local of their own may settle a place
 // (`direct_at`) and store it, which copies no book and is the same call: its contract says so of every book that has the place (`HasPlace` of the
 // book's definitions).
+#![tactic(auto)]
+
 ghost use Rattle.std.specs.Prelude.{Bool, ℕ};
 ghost use Rattle.benchmark.specs.declared.Benchmarks.{Benchmarks};
 ghost use Rattle.book.specs.declared.Book.{Book};

@@ -3,6 +3,8 @@
 // write its answer. They require document 01's own sentence on the book, `Reachable`. Each call is done apart, so that the book is handed over
 // only where a call needs it, and handed back by SET and UNDO alone; a call on a code takes and returns one place, and the caller stores it in its
 // own book, with what is kept for UNDO (`HasPlace`, `stored_in`).
+#![tactic(auto)]
+
 ghost use Rattle.std.specs.Prelude.{◌≡◌, ℕ, ◌+◌, ◌*◌, ◌≤◌, length, get_or};
 ghost use Rattle.book.specs.declared.Book.{Book};
 ghost use Rattle.book.specs.Calls.{UNDO, by};
@@ -75,7 +77,7 @@ pub fn do_tell(
 }
 
 // The book after SET or UNDO, and the place behind its answer.
-#[derive(Drop)]
+#[derive(Clone, Copy)]
 pub struct After {
     pub book: Book,
     pub at: usize,
@@ -136,7 +138,7 @@ fn settled(
 }
 
 // A place after a call on its code, the call's answer, and the place behind it in the output.
-#[derive(Drop)]
+#[derive(Clone, Copy)]
 pub struct Placed {
     pub place: Place,
     pub reply: Reply,

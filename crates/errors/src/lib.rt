@@ -1,6 +1,8 @@
 // What is answered to a line that is no call, as text in a buffer that the caller lends.
 // Promise: each function puts exactly the text that specs/Errors.antt defines (`Puts` of texts). The layer above may use `put_problem`, for
 // whatever is wrong with a line, and `put_too_long`; both require `error_room`, room for the longest error. Nothing here knows of the book.
+#![tactic(auto)]
+
 ghost use Rattle.std.specs.Prelude.{◌++◌, ◌+◌, ◌≤◌, length};
 ghost use Rattle.texts.specs.Writing.{Puts};
 ghost use Rattle.naming.specs.Naming.{name_of, arity};

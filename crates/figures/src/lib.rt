@@ -1,6 +1,8 @@
 // The 112 figures of a sheet, each its sum of the common part with NC and PANC, and SET's refusals 1 to 5 and 14.
 // Promise: `work_out` answers SET's first refusal, or the figures with which tariffs are judged. What the layer above may use: its contract,
 // and `worked_if` of specs/Working.antt.
+#![tactic(auto)]
+
 ghost use Rattle.std.specs.Prelude.{◌≡◌, ◌%◌, ◌≤◌, ◌<◌, pos, ◌+ℤ◌, eqb, length, get_or};
 ghost use Rattle.refusal.specs.declared.Check.TheVariants.{Pass};
 ghost use Rattle.refusal.specs.Checks.{unless};
@@ -19,7 +21,7 @@ use refusal::Check;
 use sheet::FIELD_COUNT;
 
 // SET's answer on a sheet and a period, and what they come to where it passes.
-#[derive(Drop)]
+#[derive(Clone, Copy)]
 pub struct Worked {
     pub check: Check,
     pub benchmarks: Benchmarks,

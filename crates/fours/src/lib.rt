@@ -1,5 +1,7 @@
 // Lists of four places, as a tariff has for its rates and its steps: which of them are used, within their limits, and rising.
 // Promise: each function equals its definition in specs/Fours.antt, for any four numbers and the first k of them.
+#![tactic(auto)]
+
 ghost use Rattle.std.specs.Prelude.{◌≡◌, ◌≤◌, take};
 ghost use Rattle.laws.specs.Notions.{sum};
 ghost use Rattle.fours.specs.Fours.{within, zero_from, rising};

@@ -2,6 +2,8 @@
 // Promise: specs/Image.antt says which book the words hold (`book_in`), for any words at all; each function reads or writes a part of it, in
 // place. What the layers above may use: these functions, `Changes` of specs/Changing.antt, which is what a call on an image promises, and the
 // laws in proofs/.
+#![tactic(auto)]
+
 ghost use Rattle.std.specs.Prelude.{◌≡◌, List, ℕ, ◌+◌, ◌≤◌, ◌⊎◌, length};
 ghost use Rattle.book.specs.Promises.{answer_of};
 ghost use Rattle.image.specs.Layout.{word_count, record_at, place_words, start_of};

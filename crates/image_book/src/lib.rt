@@ -1,6 +1,8 @@
 // The whole book that an image holds, by value, and whether its words are canonical.
 // Promise: `book_in` is `book_in` of crate image, of any words; `is_canonical` answers yes exactly where the words are `Canonical`, so that no two
 // images hold the same book (proofs/OneImage.antt, `one_image`). Only who has to look at a whole book uses them: the check of an image and the rebate run.
+#![tactic(auto)]
+
 ghost use Rattle.std.specs.Prelude.{◌≡◌, true, length, ◌+◌, ◌≤◌};
 ghost use Rattle.sheet.specs.Sheet.{field_count};
 ghost use Rattle.image.specs.Layout.{word_count};

@@ -1,5 +1,7 @@
 // The check of a whole image, for one that comes from a file: whether its words are a book that some list of calls on a fresh one leaves.
 // Promise: `is_book` answers yes exactly there; `check` answers 0 there, and else 100. They require nothing.
+#![tactic(auto)]
+
 ghost use Rattle.std.specs.Prelude.{◌≡◌, true};
 ghost use Rattle.image_check.specs.Checking.{IsBook, Checks};
 

@@ -2,6 +2,8 @@
 // Promise: each is `Changes` of the image's definitions: the number and the book after it are those of the book's own step. No book is copied:
 // one place is read from the words, settled by the proved function of its call, and the words that change are written. OPEN and ASK, which judge
 // a tariff, test first what they use of the words, and CONFIRM, OPEN and ASK say their whole answer (`Opens` of specs/Opening.antt).
+#![tactic(auto)]
+
 ghost use Rattle.std.specs.Prelude.{◌≤◌, ◌<◌, ◌≡◌, true, false, length};
 ghost use Rattle.benchmark.specs.Lawful.{Lawful};
 ghost use Rattle.tariff.specs.Tariff.{record_length, tariff_of};
@@ -22,7 +24,7 @@ use image::{KEPT_AT, KEPT_WORDS, LOADED_AT, MARK, NO_BOOK, PLACE_WORDS, RECORD_A
 
 // The answer of OPEN, ASK and CONFIRM: the refusal's number or 0; the number of cells; with 11 the cell, the excess, and t months.
 #[repr(C)]
-#[derive(Drop)]
+#[derive(Clone, Copy)]
 pub struct Opened {
     pub refusal: u32,
     pub cells: u32,

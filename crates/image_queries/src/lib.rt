@@ -1,6 +1,8 @@
 // BENCHMARK, MAXIMUM and QUOTE asked of an image, reading the words that they need and no others.
 // Promise: specs/Tells.antt, one shape for the three, for any words at all. The checks are those of the book's own calls, in their order. Nobody
 // promises that the words are what a list of calls left: what the cap's arithmetic needs of them is tested, and words that fail are no book.
+#![tactic(auto)]
+
 ghost use Rattle.std.specs.Prelude.{◌≡◌, true, ◌<◌, length};
 ghost use Rattle.cap.specs.Corners.{Fits};
 ghost use Rattle.verdict.specs.Cells.{cell, cell_numbers};
@@ -20,7 +22,7 @@ use tariff::STANDING_MOST;
 
 // The answers: 0 or the number of the refusal, and then the figures, which with a refusal are 0.
 #[repr(C)]
-#[derive(Drop)]
+#[derive(Clone, Copy)]
 pub struct Charge {
     pub refusal: u32,
     pub mills: u32,
@@ -28,7 +30,7 @@ pub struct Charge {
 
 // The maximum, as a whole number over 12 × m.
 #[repr(C)]
-#[derive(Drop)]
+#[derive(Clone, Copy)]
 pub struct Fraction {
     pub refusal: u32,
     pub number: u64,
@@ -37,7 +39,7 @@ pub struct Fraction {
 
 // The charge and the maximum, each times 1,000 × 12 × m.
 #[repr(C)]
-#[derive(Drop)]
+#[derive(Clone, Copy)]
 pub struct Quotation {
     pub refusal: u32,
     pub charge: u64,

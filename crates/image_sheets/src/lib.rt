@@ -2,6 +2,8 @@
 // Promise: `set` and `undo` promise `Changes` of the image's definitions, on any words, and `trial` tells what the trial of that book tells
 // (specs/Telling.antt) and writes nothing. Nothing is written before all is tested: that the words are an image, the desk, the sheet, and that
 // each place holds nothing or a valid tariff, which judging needs and no list of calls promises of any words.
+#![tactic(auto)]
+
 ghost use Rattle.std.specs.Prelude.{◌≡◌, true, map, ◌≢◌, ℕ, ◌+◌, length};
 ghost use Rattle.refusal.specs.declared.Check.TheVariants.{Pass, Refuse};
 ghost use Rattle.refusal.specs.Checks.{checked};
@@ -214,7 +216,7 @@ pub fn undo(image: &mut [u32], desk: u32) -> u32
 
 // What TRIAL answers: a refusal, or 0 and the set of the codes that would become drafts.
 #[repr(C)]
-#[derive(Drop)]
+#[derive(Clone, Copy)]
 pub struct Falling {
     pub refusal: u32,
     pub codes: u32,

@@ -1,6 +1,8 @@
 // What is tested of the words of an image before a tariff is judged by them, since no list of calls need have left them.
 // Promise: `is_lawful` says whether figures are such as the cap's arithmetic needs, and `holds_valid` whether a place holds nothing or a valid
 // tariff, each both ways. Of an image that holds a reachable book both are so (proofs/Reachable.antt).
+#![tactic(auto)]
+
 ghost use Rattle.std.specs.Prelude.{◌≡◌, true, ◌+◌, ◌≤◌, length};
 ghost use Rattle.laws.specs.Notions.{every};
 ghost use Rattle.benchmark.specs.Lawful.{Lawful};

@@ -3,6 +3,8 @@
 // by the system's answer to `read` (`AfterRead`); at the end of the input what is left is a line (`Closes`). `after_write` goes by whether a
 // write failed (`after_write`). Nothing here reads or writes. What the layer above may use: these three, `stop`, and the laws of
 // proofs/Between.antt and Kept.antt.
+#![tactic(auto)]
+
 ghost use Rattle.std.specs.Prelude.{◌≡◌, ◌-◌, ◌≤◌, ◌<◌, length, take};
 ghost use Rattle.libc.specs.Io.{Moved};
 ghost use Rattle.lines.specs.Words.{between};
@@ -10,7 +12,7 @@ ghost use Rattle.input.specs.Input.{Holds, at_front, Keeps, Closes, stopped, Aft
 
 // The bytes from..to of the buffer are read and not yet taken; `cut`: the start of their line was dropped, since it is too long;
 // `more`: a whole line is among them; `ended`: there is no more input; `on`: whether to go on.
-#[derive(Drop)]
+#[derive(Clone, Copy)]
 pub struct Input {
     pub from: usize,
     pub to: usize,

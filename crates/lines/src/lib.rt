@@ -1,20 +1,22 @@
 // Words and numbers in a line of bytes, and where a line ends.
 // Promise: a line's words are the runs of bytes between its spaces, a number is one or more digits of value at most 4294967295, and the
 // numbers of a line are read in one pass over its bytes, whatever stands there. The definitions are in specs/Words.antt and specs/Numerals.antt.
+#![tactic(auto)]
+
 ghost use Rattle.std.specs.Prelude.{◌≡◌, ◌+◌, ◌-◌, ◌≤◌, length, take, drop};
 ghost use Rattle.bytes.specs.Bytes.{index_of};
 ghost use Rattle.lines.specs.Words.{words, spaces, without_return};
 ghost use Rattle.lines.specs.Numerals.{number_at, numbers_in, Written};
 
 // A number and the place behind it, or a word that is no number.
-#[derive(Drop)]
+#[derive(Clone, Copy)]
 pub enum Number {
     Value(u32, usize),
     Not,
 }
 
 // How many numbers, or the place of the first word that is none, counted from 0.
-#[derive(Drop)]
+#[derive(Clone, Copy)]
 pub enum Numbers {
     All(usize),
     Bad(usize),

@@ -2,6 +2,8 @@
 // Promise: `call_named` finds the call that a word names, and `right_count` says whether a call takes so many numbers, as
 // specs/Naming.antt defines. A call is its case here, its name and arity in `form_of`, and how its name begins in `beginning`; all that reads or
 // writes it goes by these.
+#![tactic(auto)]
+
 ghost use Rattle.std.specs.Prelude.{◌≡◌, ◌≤◌, length, get_or, take};
 ghost use Rattle.naming.specs.declared.Word.{Word};
 ghost use Rattle.naming.specs.Naming.{calls, name_of, arity, right_count, FormOf, named};
@@ -10,7 +12,7 @@ ghost use Rattle.naming.specs.Naming.{calls, name_of, arity, right_count, FormOf
 pub const ACCOUNT_NUMBERS: usize = 16;
 
 // The calls that may change the place of a code.
-#[derive(Drop)]
+#[derive(Clone, Copy)]
 pub enum CodeStep {
     Put,
     Open,
@@ -22,7 +24,7 @@ pub enum CodeStep {
 }
 
 // The calls that tell of the book.
-#[derive(Drop)]
+#[derive(Clone, Copy)]
 pub enum Query {
     Benchmark,
     Maximum,
@@ -31,7 +33,7 @@ pub enum Query {
 }
 
 // A call's own word: SET, UNDO, a call on a code, one that tells, or REBATE.
-#[derive(Drop)]
+#[derive(Clone, Copy)]
 pub enum Word {
     Set,
     Undo,
@@ -41,7 +43,7 @@ pub enum Word {
 }
 
 // How many numbers a call takes.
-#[derive(Drop)]
+#[derive(Clone, Copy)]
 pub enum Arity {
     Exactly(usize),
     AtLeast(usize),
@@ -50,7 +52,7 @@ pub enum Arity {
 }
 
 // How a call is written: its name, which is the first `size` of these bytes, and how many numbers it takes.
-#[derive(Drop)]
+#[derive(Clone, Copy)]
 pub struct Form {
     pub name: [u8; 9],
     pub size: usize,
@@ -58,7 +60,7 @@ pub struct Form {
 }
 
 // The call that a word names.
-#[derive(Drop)]
+#[derive(Clone, Copy)]
 pub enum Named {
     By(Word),
     None,

@@ -1,6 +1,8 @@
 // OPEN, ASK and CONFIRM on the place of a code, and the checks 6, 9 and 17, which every call on a code has but PUT.
 // Promise: each equals its definition in specs/Opening.antt; 11 carries the first cell that exceeds, t months and their excess. Who judges a
 // tariff, `open_as`, requires lawful figures, if a sheet is loaded, and a place that holds nothing or a valid tariff; the others require nothing.
+#![tactic(auto)]
+
 ghost use Rattle.std.specs.Prelude.{◌≡◌, true};
 ghost use Rattle.benchmark.specs.Lawful.{Lawful};
 ghost use Rattle.book.specs.Calls.{cells};

@@ -1,6 +1,8 @@
 // The protocol of the desk, line by line: what is answered to one line that is no call, and which call any other asks for (docs/PROTOCOL.md).
 // Promise: specs/Lines.antt is the desk's protocol for one line, its answer and the book after it. `say_line` answers every line that
 // is no call, whatever the book, and says which call any other asks for; crate doing does that call and answers it.
+#![tactic(auto)]
+
 ghost use Rattle.std.specs.Prelude.{◌+◌, ◌≤◌, length};
 ghost use Rattle.book.specs.declared.Book.{Book};
 ghost use Rattle.book.specs.Book.{Reachable};
@@ -15,7 +17,7 @@ use naming::{CodeStep, Query, Word};
 use request::Request;
 
 // The calls that leave the book as it is: one that tells of it, or REBATE.
-#[derive(Drop)]
+#[derive(Clone, Copy)]
 pub enum Question {
     Of(Query),
     Rebate,
@@ -23,7 +25,7 @@ pub enum Question {
 
 // A line was answered, up to this place of the output; or it is a call with so many numbers, of a desk, and is still to be done: SET, UNDO, a
 // call on a code, or one that leaves the book as it is.
-#[derive(Drop)]
+#[derive(Clone, Copy)]
 pub enum Said {
     Answer(usize),
     Set(usize, u32),

@@ -2,6 +2,8 @@
 // Promise: `put` answers and leaves what `step` of the book's definitions says of its desk, on refused input too, and requires nothing. Who
 // holds a book in a local of their own may settle a place (`put_at`) and store it, which copies no book and is the same call: its contract says
 // so of every book that has the place (`HasPlace` of the book's definitions).
+#![tactic(auto)]
+
 ghost use Rattle.std.specs.Prelude.{◌≡◌, Bool, false, ℕ};
 ghost use Rattle.refusal.specs.declared.Check.TheVariants.{Pass};
 ghost use Rattle.refusal.specs.Checks.{unless};

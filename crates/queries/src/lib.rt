@@ -2,6 +2,8 @@
 // Promise: each answers what specs/Queries.antt says to its desk, on refused input too; `telling_of` reads the answer in the paper's words. They
 // require document 01's own sentence on the book, `Reachable`, since the figures are read from the book and are those of its sheet.
 // What the layer above may use: the answers, which are TRIAL's too, `refused` and `asked_check`.
+#![tactic(auto)]
+
 ghost use Rattle.std.specs.Prelude.{◌≡◌, ◌&&◌};
 ghost use Rattle.refusal.specs.Checks.{unless, first};
 ghost use Rattle.refusal.specs.declared.Check.TheVariants.{Pass};
@@ -18,7 +20,7 @@ use refusal::Check;
 
 // A refusal, with its number; or what each of the calls that tell gives. `Maximum` is its number over its denominator, 12 × m; both figures
 // of `Quote` are scaled by 1,000 × 12 × m; `Falling` is TRIAL's set of codes, bit code - 1.
-#[derive(Drop)]
+#[derive(Clone, Copy)]
 pub enum Told {
     Refused(u32),
     Benchmark(u64),

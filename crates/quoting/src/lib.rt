@@ -3,6 +3,8 @@
 // requires document 01's own sentence on the book, `Reachable`, since the figures are read from the book and are those of its sheet. `quote_at`
 // is for who holds the book: it takes the place of the code, and its contract says so of every book that has the place (`HasPlace`). `check_at`
 // makes its checks alone, and proofs/Answers.antt, `quote_there`, says what they come to.
+#![tactic(auto)]
+
 ghost use Rattle.std.specs.Prelude.{◌≡◌, ℕ};
 ghost use Rattle.book.specs.declared.Book.{Book};
 ghost use Rattle.book.specs.Book.{Reachable};

@@ -2,6 +2,8 @@
 // Promise: specs/Rebates.antt says what the run answers and leaves; each function here answers for one account of every book that has the
 // place of its code (`HasPlace`), so the book is not copied for it. proofs/Repaid.antt, `repaid_exactly`, says that nobody is left above the cap.
 // What the layer above may use: `fails`, `due`, and the makers of answers. Crate accounts walks the list.
+#![tactic(auto)]
+
 ghost use Rattle.std.specs.Prelude.{◌≡◌, ◌&&◌, ℕ, ◌*◌, ◌≤◌, ◌<◌};
 ghost use Rattle.shares.specs.Shares.{whole_share};
 ghost use Rattle.benchmark.specs.declared.Benchmarks.{Benchmarks};
@@ -26,7 +28,7 @@ pub const PLACES_MOST: usize = 1_000_000;
 
 // An account: the number of months says how many of the twelve places for them are used.
 #[repr(C)]
-#[derive(Drop)]
+#[derive(Clone, Copy)]
 pub struct Account {
     pub code: u32,
     pub region: u32,
@@ -37,7 +39,7 @@ pub struct Account {
 }
 
 // What the run answers: the total of the rebates, or a refusal's number with the first such account's place.
-#[derive(Drop)]
+#[derive(Clone, Copy)]
 pub enum Run {
     Accepted(u64),
     Refused { number: u32, place: usize },

@@ -1,6 +1,8 @@
 // The line `rebate`: its numbers read as accounts, the run over them, and the text of its answer (docs/PROTOCOL.md).
 // Promise: `answer_rebate` puts exactly the text that specs/Rebating.antt defines (`rebate_text`), which goes by the run of crate rebates. It
 // requires document 01's own sentence on the book, `Reachable`, no more numbers than a line has, and room for the longest answer.
+#![tactic(auto)]
+
 ghost use Rattle.std.specs.Prelude.{◌≡◌, ◌∷◌, map, ◌+◌, ◌*◌, ◌≤◌, length, take, drop};
 ghost use Rattle.charge.specs.Most.{months_most};
 ghost use Rattle.book.specs.Book.{Reachable};

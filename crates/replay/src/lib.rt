@@ -1,6 +1,8 @@
 // A lent list of encoded calls, each with its desk, run from a fresh book.
 // Promise: `run`'s own contract is demand 3, of the answers that it wrote and the book that it returns. It is the witness that the
 // contracts of SET, PUT, OPEN, CLOSE, DROP, UNDO, ASK, CONFIRM and DIRECT compose. A list that encodes no calls ends the run where it stops making sense.
+#![tactic(auto)]
+
 ghost use Rattle.std.specs.Prelude.{◌≡◌, List, map, ℕ, ◌≤◌, ◌<◌, length, get_or};
 ghost use Rattle.std.proofs.lemmas.List.Edits.{sets};
 ghost use Rattle.book.specs.Calls.{Call, by};
@@ -15,7 +17,7 @@ use calendar::Period;
 use codes::CodeAct;
 
 // One call of an encoded list, on a book: the number of its answer, the book after it, and where it ends in the list.
-#[derive(Drop)]
+#[derive(Clone, Copy)]
 pub struct Ran {
     pub number: u64,
     pub book: Book,

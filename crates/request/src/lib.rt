@@ -2,6 +2,8 @@
 // `desk` and the desk's number; the desk of any other line has all fourteen regions.
 // Promise: `request_of` answers what specs/Requests.antt, the desk's protocol, says of every line of bytes, and leaves a call's numbers in
 // order. `Standing` is what the layer above may use of a call: the count is right for it, and its numbers stand there.
+#![tactic(auto)]
+
 ghost use Rattle.std.specs.Prelude.{◌≡◌, ◌≤◌, length, drop};
 ghost use Rattle.lines.specs.Words.{words};
 ghost use Rattle.request.specs.Requests.{names_desk, call_in, desk_line, request_of, Standing, StandingFor};
@@ -10,7 +12,7 @@ use lines::{Number, Numbers};
 use naming::{Named, Word};
 use tariff::ALL_FOURTEEN;
 
-#[derive(Drop)]
+#[derive(Clone, Copy)]
 pub enum Request {
     // No word, or a comment.
     Nothing,

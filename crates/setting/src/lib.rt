@@ -2,6 +2,8 @@
 // Promise: `set` answers and leaves what `step` says of SET, on refused input too: the sheet is replaced, each open tariff that
 // exceeds somewhere becomes a draft, unless it is under a direction, and no draft is marked. Only a desk with all fourteen regions may: 17 to any other. `judge` does all of that but storing it, for TRIAL too, and asks only
 // that the places hold nothing or valid tariffs. `set` requires document 01's own sentence on the book, `Reachable`.
+#![tactic(auto)]
+
 ghost use Rattle.std.specs.Prelude.{◌≡◌, true, map, ℕ, ◌<◌, length, get_or};
 ghost use Rattle.sheet.specs.Sheet.{field_count};
 ghost use Rattle.benchmark.specs.Lawful.{Lawful};
@@ -72,7 +74,7 @@ fn fields_of(fields: &[u32]) -> [u32; FIELD_COUNT]
 }
 
 // The answer of SET's checks and, where they pass, the figures of the sheet and the places judged by them.
-#[derive(Drop)]
+#[derive(Clone, Copy)]
 pub struct Judgement {
     pub check: Check,
     pub figures: Benchmarks,

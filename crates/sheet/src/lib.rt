@@ -2,6 +2,8 @@
 // Promise: `fields_in_range` is refusal 2 and `terms_fit` refusal 4, turned round; each term is Round(baseline × current, initial), and
 // `smncc_of` is SMNCC with its sign. What the layer above may use: the terms' names, `smncc` and `peak_share`, `Ranged` and `Indexed` of
 // specs/Ranged.antt, the bounds in proofs/Bounds.antt, and what depends on fields 0 to 36 alone, proofs/CommonFields.antt.
+#![tactic(auto)]
+
 ghost use Rattle.std.specs.Prelude.{◌≡◌, true, ◌+◌, ◌*◌, ◌≤◌, ◌<◌, length};
 ghost use Rattle.sheet.specs.Sheet.{field_count, range_of, value_of, smncc, field_in_range, fields_in_range, round, indexed, df_term, cm_term, pc_term, oc_term, paac_term, four_fit, paac_fits, terms_fit};
 ghost use Rattle.sheet.specs.CommonFields.{common_count};
@@ -15,7 +17,7 @@ pub const FIELD_COUNT: usize = 96;
 // The most of a peak share, as the end of a range.
 const PEAK_MOST: i64 = WHOLE_SHARE as i64;
 
-#[derive(Drop)]
+#[derive(Clone, Copy)]
 pub struct Range {
     pub low: i64,
     pub high: i64,

@@ -3,6 +3,8 @@
 // is told, of any words; `slatewhim_check` answers 0 exactly where they are a book. `slatewhim_rebates` answers 100 for what is no book, and leaves the
 // list as it was; for a book the answer is that of `run_of` of crate rebates, and the list that of `after_run` (specs/Running.antt, `RunsOver`). It takes
 // a slice of structs, so it is proved by a walk of its code, by hand; what it calls is covered. Crate linked says what a list of these calls comes to.
+#![tactic(auto)]
+
 ghost use Rattle.std.specs.Prelude.{◌≡◌};
 ghost use Rattle.book.specs.Calls.{SET, PUT, OPEN, CLOSE, DROP, UNDO, ASK, CONFIRM, DIRECT, sheet_at, by};
 ghost use Rattle.queries.specs.Queries.{benchmark_of, maximum_of};
@@ -177,7 +179,7 @@ pub extern "C" fn slatewhim_quote(
 
 // The answer of a run: 0 and the total, or the number of the refusal and the place of the account; 100 for what is no book.
 #[repr(C)]
-#[derive(Drop)]
+#[derive(Clone, Copy)]
 pub struct Ran {
     pub refusal: u32,
     pub place: u64,

@@ -4,6 +4,8 @@
 // and back. 7: as 0, each SET taken back by UNDO. 8: accounts of 12 months, in rebate runs over 10,000. Any other number: each of the nine in turn.
 // Promise: each run is safe and ends, and every book that is handed to a call is one that some list of calls leaves.
 // tests/speed has the twin of this program on another implementation, and the runner that times both.
+#![tactic(auto)]
+
 ghost use Rattle.std.specs.Prelude.{◌≡◌, ◌<◌, ◌≤◌, length};
 ghost use Rattle.sheet.specs.Sheet.{field_count};
 ghost use Rattle.book.specs.Book.{Reachable};

@@ -2,6 +2,8 @@
 // Promise: `stands` answers exactly that, of any book at all. What such a book is, crate stands proves; here it is tested: each place by its
 // state, the figures against those worked out again from the sheet, and what is kept for UNDO by the book that UNDO would bring back and by
 // what SET of the sheet in force would make of it.
+#![tactic(auto)]
+
 ghost use Rattle.std.specs.Prelude.{◌≡◌, true, ◌↔◌, ℕ, ◌<◌, length, get_or};
 ghost use Rattle.refusal.specs.declared.Check.TheVariants.{Pass};
 ghost use Rattle.benchmark.specs.Lawful.{Lawful};

@@ -2,6 +2,8 @@
 // Promise (specs/Taking.antt): `take_lines` takes whole lines one after the other, each answered as the protocol says (`Takes`, over `line_at`
 // of protocol/specs/Lines.antt), on the book and the count of lines of the line before; a whole line is left only where there was no room
 // for its answer (`Took`). What the layer above may use: `Desk`, `take_lines`, and the laws of proofs/Taking.antt and Progress.antt.
+#![tactic(auto)]
+
 ghost use Rattle.std.specs.Prelude.{◌≡◌, ◌≤◌, length};
 ghost use Rattle.book.specs.Book.{Reachable};
 ghost use Rattle.lines.specs.Words.{longest_line};
@@ -14,7 +16,7 @@ use input::Input;
 use protocol::Said;
 
 // What is kept from turn to turn: the book, how many lines were taken, how many bytes wait in the output, and the input.
-#[derive(Drop)]
+#[derive(Clone, Copy)]
 pub struct Desk {
     pub book: Book,
     pub lines: u64,

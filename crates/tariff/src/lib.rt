@@ -2,6 +2,8 @@
 // Promise: `check` is refusal 8, "not such a record, its length included", for any list of numbers; `standing_in` is what a valid tariff
 // charges a day in a region. What the layer above may use: `Tariff`, `tariff_of`, `standing_in`, `valid_tariff` and `record_check` of
 // specs/Tariff.antt, `has`, `is_valid`, and the laws of a valid tariff in proofs/Validity.antt.
+#![tactic(auto)]
+
 ghost use Rattle.std.specs.Prelude.{◌≡◌, true, ◌&&◌, ◌||◌, ◌+◌, ◌≤◌, ◌<◌, leb, eqb, length, take};
 ghost use Rattle.laws.specs.Notions.{every, sum, bit};
 ghost use Rattle.tariff.specs.Tariff.{standing_most, record_length, tariff_of, standing_in, single_register, economy7, multi_register, region_fits, valid_tariff, record_check};
@@ -23,7 +25,7 @@ pub const ALL_FOURTEEN: u32 = 16_383;
 pub const RECORD_LENGTH: usize = 27;
 
 // A record: numbers 0 to 4, the rates (5 to 8), the steps (9 to 12) and what each region adds to the standing charge (13 to 26).
-#[derive(Drop)]
+#[derive(Clone, Copy)]
 pub struct Tariff {
     pub kind: u32,
     pub n: u32,

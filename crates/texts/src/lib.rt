@@ -2,6 +2,8 @@
 // Promise: each function writes, from place `at` on, exactly the bytes that specs/Texts.antt defines, leaves every other byte as it was,
 // and returns the place behind them (`Puts` of specs/Writing.antt). Each requires room for the longest text that it may write. The layers
 // above may use `put_text`, `put_number`, `put_line` and `put_numbered`, and the laws of texts one behind the other (proofs/Writing.antt).
+#![tactic(auto)]
+
 ghost use Rattle.std.specs.Prelude.{◌++◌, ◌+◌, ◌*◌, ◌<◌, ◌≤◌, length};
 ghost use Rattle.texts.specs.Texts.{two_digits, decimal, spaced, line_of};
 ghost use Rattle.texts.specs.Writing.{Puts};

@@ -2,6 +2,8 @@
 // Promise: `trial` answers what specs/Trial.antt says by SET itself, on refused input too: the refusal that SET would give, or the set of
 // the codes that are open in the book and drafts in the one that SET would leave. The checks and the judging are SET's own,
 // `setting::judge`. Only a desk with all fourteen regions may try one: 17 to any other. It requires document 01's own sentence on the book, `Reachable`.
+#![tactic(auto)]
+
 ghost use Rattle.std.specs.Prelude.{◌≡◌, cond};
 ghost use Rattle.tariff.specs.Tariff.{all_fourteen};
 ghost use Rattle.book.specs.Calls.{sheet_at};

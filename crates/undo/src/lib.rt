@@ -2,6 +2,8 @@
 // Promise: `undo` answers and leaves what `step` of the book's definitions says of UNDO, on refused input too: 15, or the book as it was before
 // that SET, with nothing more to take back (stands/proofs/Undone.antt, `undone`). Only a desk with all fourteen regions may: 17 to any other. It requires document 01's own sentence on the book,
 // `Reachable`. `book_before` is the book that is kept, for any book: the one that UNDO brings back, where that stands.
+#![tactic(auto)]
+
 ghost use Rattle.std.specs.Prelude.{◌≡◌};
 ghost use mathlib.Core.List.{zip_with};
 ghost use Rattle.refusal.specs.declared.Check.TheVariants.{Pass};

@@ -3,6 +3,8 @@
 // of answer 11 and their excess. Each offered cell is looked at once, with the standing charge of its region; where a share may be greatest
 // is worked out once for the tariff. What the layer above may use: `verdict`, `first_over`, `Offered`, `ExceedsIn`, `cell_numbers`,
 // `tariff_numbers` of specs/Cells.antt, and the theorems in proofs/Meaning.antt, Count.antt and Regional.antt.
+#![tactic(auto)]
+
 ghost use Rattle.std.specs.Prelude.{◌≡◌, true, ◌<◌, ◌≤◌, length, get_or};
 ghost use Rattle.tariff.specs.declared.Tariff.{Tariff};
 ghost use Rattle.benchmark.specs.declared.Benchmarks.{Benchmarks};
@@ -18,21 +20,21 @@ use cap::CellNumbers;
 use tariff::Tariff;
 
 // The first cell that exceeds, as region and method.
-#[derive(Drop)]
+#[derive(Clone, Copy)]
 pub enum Found {
     Nowhere,
     Over(u32, u32),
 }
 
 // The number of cells, or the first cell that exceeds and the excess there.
-#[derive(Drop)]
+#[derive(Clone, Copy)]
 pub enum Outcome {
     Opens(u32),
     Over(u32, u32, u64),
 }
 
 // An outcome, and the months of answer 11 in the first t places.
-#[derive(Drop)]
+#[derive(Clone, Copy)]
 pub struct Ruling {
     pub outcome: Outcome,
     pub months: [u32; 12],

@@ -20,7 +20,7 @@ use Rattle.book.specs.declared.Place.{Place}
 use Rattle.book.specs.declared.Book.{Book}
 use Rattle.book.specs.Calls.{Sheet, Record, Act, SET, PUT, OPEN, ASK, DIRECT, call, accepted, refused}
 use Rattle.book.specs.Checks.{Readings, figures_of, inside, confirmed_as, put_answer, open_answer, direct_answer, answer}
-use Rattle.book.specs.Book.{empty, place_with, tariff_in, with_state, with_direction, nothing_kept, fresh, beyond, place_of, held, sheet_if, sheet_in, in_force, with_places, with_place, under, restored, changed, Reachable}
+use Rattle.book.specs.Book.{book_readings, empty, place_with, tariff_in, with_state, with_direction, nothing_kept, fresh, beyond, place_of, held, sheet_if, sheet_in, in_force, with_places, with_place, under, restored, changed, Reachable}
 use Rattle.book.proofs.Places.{in_range}
 use Rattle.book.proofs.Reached.{fresh_reachable, step_reachable}
 use Rattle.book.proofs.Steps.{made}
@@ -81,7 +81,7 @@ module _ (b : Book) (xs ys : List Place) (within : length xs < 32) where
       let k = suc (length xs) in
       let it = get_or-append_seam xs p ys beyond in
       let e = ap (λ o. open_answer all_fourteen k (held o) (in_force b)) it ∙ may_open b.loaded (sheet_in b) k c x code h in
-      let m = made d (call (a k)) (confirmed_as c x) (by _ k ∙ e) refl in
+      let m = made d (call (a k)) (confirmed_as c x) (by (book_readings d) k ∙ e) refl in
       let n = ap (λ o. with_place d k (with_state q o)) it ∙ ap (λ ps. with_places b ps nothing_kept) (set-append_seam xs p ys (place_with q c x)) in
       subst Reachable (m ∙ (leaves d k ∙ n)) (step_reachable r (call (a k)))
 

@@ -1,17 +1,12 @@
 -- `fours::all_rising` meets its contract. The loop's invariant: each of the first i numbers is below the one after it.
 -- The test is made k - 1 times, and never where k is 0.
 -- Assumes nothing.
-use mathlib.Core.Path.{◌≡◌, refl}
+use mathlib.Core.Path.{◌≡◌}
 use mathlib.Core.Bool.{true}
 use Prim.Native.Nat.{◌+◌, ◌-◌, ◌≤◌}
-use native.Mathlib.Omega.{arith}
 use lib.Dec.{ltb}
 use lib.ListN.{get_or}
-use borrow.Author.Tests.{lt-ltb, le-ltb}
 use Rattle.laws.specs.Notions.{every}
-use Rattle.laws.proofs.Every.{every_more}
-use Rattle.fours.specs.Fours.{rising}
-use Rattle.laws.proofs.Answers.{stops, ends}
 use Rattle.fours.proofs.all_rising.Given as goal
 
 abbrev pub invariant-loop-i : goal.invariant-loop-i

@@ -1,12 +1,11 @@
 -- `fours::sum_of` meets its contract. The loop's invariant: the sum so far and that of what is left are the sum of the first k
 -- numbers, and the sum so far is at most 2 ^ 32 - 1 for each number passed.
 -- Assumes nothing.
-use mathlib.Core.Path.{◌≡◌, ap}
-use Prim.Native.Nat.{◌+◌, ◌-◌, ◌*◌, ◌≤◌}
+use mathlib.Core.Path.{ap}
+use Prim.Native.Nat.{◌≤◌}
 use native.Mathlib.Omega.{arith}
 use mir.Syntax.{w32}
-use lib.ListN.{length, take, drop}
-use borrow.Author.Rules.{rules}
+use lib.ListN.{length}
 use borrow.Kind.Array.{e_int, good_length}
 use Rattle.laws.specs.Notions.{sum as sum_of}
 use Rattle.laws.proofs.Lists.{drop_take, drop_end}

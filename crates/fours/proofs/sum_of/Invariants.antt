@@ -1,15 +1,10 @@
 -- `fours::sum_of` meets its contract. The loop's invariant: the sum so far and that of what is left are the sum of the first k
 -- numbers, and the sum so far is at most 2 ^ 32 - 1 for each number passed.
 -- Assumes nothing.
-use mathlib.Core.Path.{◌≡◌, ap}
+use mathlib.Core.Path.{◌≡◌}
 use Prim.Native.Nat.{◌+◌, ◌-◌, ◌*◌, ◌≤◌}
-use native.Mathlib.Omega.{arith}
-use mir.Syntax.{w32}
-use lib.ListN.{length, take, drop}
-use borrow.Author.Rules.{rules}
-use borrow.Kind.Array.{e_int, good_length}
+use lib.ListN.{take, drop}
 use Rattle.laws.specs.Notions.{sum as sum_of}
-use Rattle.laws.proofs.Lists.{drop_take, drop_end}
 use Rattle.fours.proofs.sum_of.Given as goal
 
 abbrev pub invariant-loop-i : goal.invariant-loop-i

@@ -1,14 +1,7 @@
 -- `fours::zero_from` meets its contract. The loop's invariant: each place from k to i is 0, and those before k are not asked.
 -- Assumes nothing.
-use mathlib.Core.Path.{◌≡◌}
-use mathlib.Core.Bool.{true, ◌||◌}
-use Prim.Native.Nat.{◌-◌, ◌≤◌}
 use native.Mathlib.Omega.{arith}
-use lib.Dec.{ltb, eqb}
-use lib.ListN.{get_or}
-use borrow.Author.Rules.{rules}
 use borrow.Author.Tests.{lt-ltb, le-ltb, eq-eqb, ne_eqb}
-use Rattle.laws.specs.Notions.{every}
 use Rattle.laws.proofs.Every.{every_more, every_all}
 use Rattle.fours.specs.Fours.{zero_from}
 use Rattle.laws.proofs.Answers.{stops, ends}

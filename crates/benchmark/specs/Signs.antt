@@ -1,6 +1,6 @@
 -- Document 02, M-102: what refusal 14 keeps from below zero. No negative number is rounded.
 -- Assumes nothing.
-use Rattle.std.specs.Prelude.{◌≡◌, true, List, ℕ, ℤ, pos, ◌+ℤ◌, ◌*ℤ◌, ◌≤ℤ◌}
+use Rattle.std.specs.Prelude.{◌≡◌, true, List, ℕ, pos, ◌+ℤ◌, ◌*ℤ◌, ◌≤ℤ◌}
 use Rattle.sheet.specs.Ranged.{Indexed}
 use Rattle.benchmark.specs.Benchmark.{four, hap, pap, nc, oc, paenc, benchmark, ocs_fit}
 use Rattle.benchmark.specs.Common.{costs_at}

@@ -2,17 +2,11 @@
 -- Assumes nothing.
 use Prim.Native.Nat.{◌+◌}
 use native.Mathlib.Omega.{arith}
-use borrow.Author.Rules.{rules}
 use Rattle.calendar.specs.Calendar.{first_month}
 use Rattle.calendar.proofs.Table.{later}
-use Rattle.calendar.proofs.Periods.{Within, within}
+use Rattle.calendar.proofs.Periods.{within}
 use Rattle.calendar.proofs.Lengths.{entries_rise, entries_apart, entries_at_most}
 use Rattle.calendar.proofs.days.Goals as goal
-
--- the bounds of the period, at the entries
-
-bounds : (c : goal.After-struct-known3) → Within c.args.p
-bounds c = within c.args.p c.requires
 
 pub overflow_sub-first : goal.overflow_sub-first
 overflow_sub-first c = omega (arith, within c.args.p c.requires)
@@ -27,18 +21,18 @@ pub overflow_add-first : goal.overflow_add-first
 overflow_add-first c = omega (arith, within c.args.p c.requires)
 
 pub bounds-begins-end : goal.bounds-begins-end
-bounds-begins-end c = omega (arith, bounds c)
+bounds-begins-end c = omega (arith, within c.args.p c.requires)
 
 pub bounds-begins-first : goal.bounds-begins-first
-bounds-begins-first c = omega (arith, bounds c)
+bounds-begins-first c = omega (arith, within c.args.p c.requires)
 
 pub overflow_sub-result : goal.overflow_sub-result
 unfolding later
 overflow_sub-result c =
     let p = c.args.p in
-    entries_rise (first_month p) (first_month p + p.months) (omega (arith, bounds c)) (omega (arith, bounds c))
+    let h = within p c.requires in
+    entries_rise (first_month p) (first_month p + p.months) (omega arith) (omega arith)
 
 pub returns : goal.returns
 unfolding later
-returns c =
-    (entries_apart c.args.p c.requires, entries_at_most c.args.p c.requires)
+returns c = (entries_apart c.args.p c.requires, entries_at_most c.args.p c.requires)

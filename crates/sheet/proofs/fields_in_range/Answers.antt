@@ -1,11 +1,7 @@
 -- `sheet::fields_in_range` meets its contract. The loop's invariant: each field before i is in its range.
 -- Assumes nothing.
 use mathlib.Core.Path.{◌≡◌, refl, sym, ◌∙◌}
-use mathlib.Core.Bool.{true}
-use Prim.Native.Nat.{◌-◌, ◌≤◌}
 use native.Mathlib.Omega.{arith}
-use borrow.Author.Rules.{rules}
-use borrow.Author.Tests.{not-true, not-false}
 use Rattle.laws.specs.Notions.{every}
 use Rattle.laws.proofs.Every.{every_more, every_not}
 use Rattle.sheet.specs.Sheet.{field_count, field, field_in_range, fields_in_range}
@@ -26,7 +22,7 @@ returns-then-not-field_in_range c =
     field_count
     lp.i
     (omega arith)
-    (sym c.field_in_range.ensures ∙ not-true _ c.if-not-field_in_range.true))
+    (sym c.field_in_range.ensures ∙ c.if-not-field_in_range.true))
 
 pub loop-i-preserved : goal.loop-i-preserved
 loop-i-preserved c =
@@ -37,7 +33,7 @@ loop-i-preserved c =
           (λ k. field_in_range k (field s k))
           lp.i
           lp.invariant.1
-          (sym c.field_in_range.ensures ∙ not-false _ c.if-not-field_in_range.false),
+          (sym c.field_in_range.ensures ∙ c.if-not-field_in_range.false),
     )
 
 pub returns : goal.returns

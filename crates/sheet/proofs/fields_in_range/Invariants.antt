@@ -1,14 +1,10 @@
 -- `sheet::fields_in_range` meets its contract. The loop's invariant: each field before i is in its range.
 -- Assumes nothing.
-use mathlib.Core.Path.{◌≡◌, refl, sym, ◌∙◌}
+use mathlib.Core.Path.{◌≡◌}
 use mathlib.Core.Bool.{true}
 use Prim.Native.Nat.{◌-◌, ◌≤◌}
-use native.Mathlib.Omega.{arith}
-use borrow.Author.Rules.{rules}
-use borrow.Author.Tests.{not-true, not-false}
 use Rattle.laws.specs.Notions.{every}
-use Rattle.laws.proofs.Every.{every_more, every_not}
-use Rattle.sheet.specs.Sheet.{field_count, field, field_in_range, fields_in_range}
+use Rattle.sheet.specs.Sheet.{field_count, field, field_in_range}
 use Rattle.sheet.proofs.fields_in_range.Given as goal
 
 abbrev pub invariant-loop-i : goal.invariant-loop-i

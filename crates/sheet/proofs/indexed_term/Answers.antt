@@ -2,25 +2,18 @@
 -- Assumes nothing.
 use native.Mathlib.Nat.{mul-le-mul}
 use native.Mathlib.Omega.{arith}
-use Prim.Native.Nat.{◌≤◌, ◌*◌}
-use borrow.Author.Rules.{rules}
+use Prim.Native.Nat.{◌≤◌}
 use Rattle.sheet.specs.Sheet.{indexed}
 use Rattle.sheet.proofs.Bounds.{base_most, current_most, initial_some, initial_most}
 use Rattle.sheet.proofs.indexed_term.Goals as goal
 
 -- baseline and current, as they were read, and their product
-
-product-most : (c : goal.After-wide-2) → c.wide.result * c.wide-2.result ≤ 1000000000000000000
-product-most c =
-    let s = c.args.part.now in
-    let a : c.wide.result ≤ 100000000 = rw c.wide.ensures (base_most s c.requires.0 _ (omega arith) c.requires.1) in
-    let b : c.wide-2.result ≤ 1000000000 = rw c.wide-2.ensures (current_most s c.requires.0 _ (omega arith) c.requires.2 c.requires.3) in
-    omega (arith, mul-le-mul {n₂ = 100000000} {m₂ = 1000000000} a b)
-
 pub rounded-requires : goal.rounded-requires
 rounded-requires c =
-    let s = c.args.part.now in (
-      product-most c,
+    let s = c.args.part.now in
+    let a : c.wide.result ≤ 100000000 = rw c.wide.ensures (base_most s c.requires.0 _ (omega arith) c.requires.1) in
+    let b : c.wide-2.result ≤ 1000000000 = rw c.wide-2.ensures (current_most s c.requires.0 _ (omega arith) c.requires.2 c.requires.3) in (
+      omega (arith, mul-le-mul {n₂ = 100000000} {m₂ = 1000000000} a b),
       rw c.wide-3.ensures (initial_some s c.requires.0 _ (omega arith) c.requires.4 c.requires.5),
       rw c.wide-3.ensures (initial_most s c.requires.0 _ (omega arith) c.requires.4 c.requires.5),
     )

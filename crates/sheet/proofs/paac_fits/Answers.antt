@@ -1,6 +1,5 @@
 -- `sheet::paac_fits` meets its contract, by that of `paac_term`.
 -- Assumes nothing.
-use borrow.Author.Rules.{rules}
 use Rattle.sheet.specs.Sheet.{paac_fits}
 use Rattle.sheet.proofs.paac_fits.Goals as goal
 

@@ -6,10 +6,10 @@ use Rattle.sheet.proofs.Ranges.{money_first, ppm_at, money_middle, initial_at, c
 use Rattle.sheet.proofs.range_of.Goals as goal
 
 pub returns-in-36 : goal.returns-in-36
-returns-in-36 c = sym (net_cost_at _ c.in-36.keys1)
+returns-in-36 c = sym (net_cost_at _ c.in-36.is)
 
 pub returns-in-95 : goal.returns-in-95
-returns-in-95 c = sym (tenths_at _ c.in-36.keys2)
+returns-in-95 c = sym (tenths_at _ c.in-95.is)
 
 pub returns-in-16-to-19 : goal.returns-in-16-to-19
 returns-in-16-to-19 c = sym (ppm_at _ (omega arith) (omega arith))
@@ -24,7 +24,7 @@ pub returns-in-93-to-94 : goal.returns-in-93-to-94
 returns-in-93-to-94 c = sym (level_at _ (omega arith) (omega arith))
 
 pub returns-in_default : goal.returns-in_default
-returns-in_default c = let other = c.in-36.rest in sym (nothing_past _ (omega (arith, other)))
+returns-in_default c = sym (nothing_past _ (omega arith))
 
 pub returns-in-0-to-15 : goal.returns-in-0-to-15
 returns-in-0-to-15 c = sym (money_first _ (omega arith))
@@ -33,4 +33,4 @@ pub returns-in-0-to-15-2 : goal.returns-in-0-to-15-2
 returns-in-0-to-15-2 c = sym (money_middle _ (omega arith) (omega arith))
 
 pub returns-in-0-to-15-3 : goal.returns-in-0-to-15-3
-returns-in-0-to-15-3 c = let other = c.in-36.rest in sym (money_last _ (omega (arith, other)) (omega arith))
+returns-in-0-to-15-3 c = sym (money_last _ (omega arith) (omega arith))

@@ -1,7 +1,6 @@
 -- `sheet::rounded` meets its contract, which is its own formula: nothing overflows.
 -- Assumes nothing.
 use mathlib.Core.Path.{refl}
-use borrow.Author.Rules.{rules}
 use Rattle.sheet.specs.Sheet.{round}
 use Rattle.sheet.proofs.rounded.Goals as goal
 

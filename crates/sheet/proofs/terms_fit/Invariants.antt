@@ -1,14 +1,10 @@
 -- `sheet::terms_fit` meets its contract. The loop's invariant: the terms of each place before f fit.
 -- Assumes nothing.
-use mathlib.Core.Path.{◌≡◌, refl, sym, ◌∙◌}
-use mathlib.Core.Bool.{true, false}
+use mathlib.Core.Path.{◌≡◌}
+use mathlib.Core.Bool.{true}
 use Prim.Native.Nat.{◌-◌, ◌≤◌}
-use native.Mathlib.Omega.{arith}
-use borrow.Author.Rules.{rules}
-use borrow.Author.Tests.{not-true, not-false}
 use Rattle.laws.specs.Notions.{every}
-use Rattle.laws.proofs.Every.{every_more, every_not}
-use Rattle.sheet.specs.Sheet.{four_fit, terms_fit}
+use Rattle.sheet.specs.Sheet.{four_fit}
 use Rattle.sheet.proofs.terms_fit.Given as goal
 
 abbrev pub invariant-loop-f : goal.invariant-loop-f

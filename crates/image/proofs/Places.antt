@@ -1,24 +1,19 @@
 -- The places of an image, and the book that it holds after one of them was written and nothing is kept for UNDO.
 -- Assumes nothing.
-use mathlib.Core.Path.{◌≡◌, refl, sym, ◌∙◌, ap, ap₂}
+use mathlib.Core.Path.{◌≡◌, refl, sym, ◌∙◌, ap}
 use mathlib.Core.List.{List, [], ◌∷◌, map}
 use mathlib.Core.Logic.{◌⊎◌, inl, inr}
-use Prim.Native.Nat.{ℕ, zero, suc, ◌+◌, ◌*◌, ◌≤◌, ◌<◌}
+use Prim.Native.Nat.{ℕ, zero, suc, ◌+◌, ◌≤◌, ◌<◌}
 use native.Mathlib.Decide.{dec_le}
 use native.Mathlib.Omega.{arith}
-use lib.ListN.{length, get_or, set, replicate, length-map, length-set, get_or-map}
+use lib.ListN.{length, get_or, set, length-map, length-set}
 use lib.Seq.{get_or-set_same, get_or-set_other, ext_get_or}
 use Rattle.laws.specs.Notions.{tabulate}
-use Rattle.laws.proofs.Lists.{length_tabulate, get_d_tabulate, noughts}
-use Rattle.sheet.specs.Sheet.{field_count}
-use Rattle.book.specs.declared.Place.{Place}
-use Rattle.book.specs.declared.Stood.{Stood}
-use Rattle.book.specs.declared.Kept.{Kept}
-use Rattle.book.specs.declared.State.TheVariants.{Empty}
-use Rattle.book.specs.Book.{beyond, stood_as, nothing_kept, with_places, with_place}
-use Rattle.image.specs.Layout.{word_count, kept_at, kept_states_at, kept_words, places_at, place_words, start_of}
-use Rattle.image.specs.Image.{word, words, state_of, place_at, figures_in, places_in, states_in, kept_in, book_in}
-use Rattle.image.proofs.Reading.{words_alike, are_words}
+use Rattle.laws.proofs.Lists.{length_tabulate, get_d_tabulate}
+use Rattle.book.specs.Book.{beyond}
+use Rattle.image.specs.Layout.{places_at, place_words, start_of}
+use Rattle.image.specs.Image.{word, place_at, places_in}
+use Rattle.image.proofs.Reading.{words_alike}
 
 -- an entry of a mapped table
 mapped_at : {A B : Type 0} (f : A → B) (d : A) (e : B) (xs : List A) (i : ℕ) → i < length xs → get_or (map f xs) i e ≡ f (get_or xs i d)

@@ -1,6 +1,6 @@
 -- The parts of an image, as they are read.
 -- Assumes nothing.
-use mathlib.Core.Path.{◌≡◌, refl, sym, ◌∙◌, ap}
+use mathlib.Core.Path.{◌≡◌, sym, ◌∙◌, ap}
 use mathlib.Core.Bool.{true}
 use mathlib.Core.List.{List}
 use Prim.Native.Nat.{ℕ, ◌+◌, ◌-◌, ◌≤◌, ◌<◌}
@@ -9,7 +9,6 @@ use lib.Dec.{eqb}
 use lib.ListN.{length, take, drop, replicate, length-drop, length-replicate}
 use lib.Seq.{get_or-take, get_or-drop, length-take-le}
 use borrow.Author.Tests.{eqb-true}
-use Rattle.laws.specs.Notions.{tabulate}
 use Rattle.laws.proofs.Every.{and_left}
 use Rattle.laws.proofs.Lists.{noughts, length_tabulate, get_d_tabulate, tabulate_alike, is_table}
 use Rattle.tariff.specs.Tariff.{record_length}

@@ -1,7 +1,7 @@
 -- A book as 1,279 words of 32 bits, as a C program keeps it: the book that the words hold. It is a total reading: any words are read as
 -- some places and some sheet, and `Reachable` says whether they are a book that calls leave.
 -- Assumes nothing.
-use Rattle.std.specs.Prelude.{◌≡◌, Bool, cond, ◌&&◌, List, [], ◌∷◌, map, ℕ, ◌+◌, ◌≤◌, ◌<◌, eqb, length, get_or}
+use Rattle.std.specs.Prelude.{Bool, cond, ◌&&◌, List, map, ℕ, ◌+◌, ◌≤◌, ◌<◌, eqb, length, get_or}
 use Rattle.laws.specs.Notions.{tabulate}
 use Rattle.calendar.specs.declared.Period.{Period}
 use Rattle.sheet.specs.Sheet.{field_count}

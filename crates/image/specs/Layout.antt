@@ -2,7 +2,6 @@
 -- (src/lib.rt).
 -- Assumes nothing.
 use Rattle.std.specs.Prelude.{ℕ, ◌+◌, ◌*◌}
-use Rattle.sheet.specs.Sheet.{field_count}
 
 -- how many words an image has, and the first of them: the bytes S, L, W and the version of this layout, 1
 abbrev pub word_count : ℕ

@@ -1,0 +1,12 @@
+-- `image::copy` meets its contract.
+-- Assumes nothing.
+use Prim.Native.Nat.{◌+◌, ◌-◌, ◌≤◌}
+use Rattle.image.specs.Image.{word}
+use Rattle.image.specs.Changing.{Written}
+use Rattle.image.proofs.copy.Given as goal
+
+abbrev pub invariant-loop-i : goal.invariant-loop-i
+invariant-loop-i l = (l.i ≤ l.n) × Written l.initial.image l.image l.to l.i (λ j. word l.initial.image (l.from + j))
+
+abbrev pub decreases-loop-i : goal.decreases-loop-i
+decreases-loop-i l = l.n - l.i

@@ -1,0 +1,18 @@
+-- `putting::put` meets its contract: the place of the code is read, settled and stored again.
+-- Assumes nothing.
+use mathlib.Core.Path.{refl, sym, ◌∙◌}
+use Rattle.book.proofs.Steps.{kept_if, kept_else, stored_with}
+use Rattle.putting.proofs.Answers.{put_does}
+use Rattle.putting.proofs.put.Goals as goal
+
+pub returns-then-accepted : goal.returns-then-accepted
+returns-then-accepted c =
+    let b = c.args.b in
+    stored_with b _ _ c.put_at-put.result _ (c.nothing_kept-next.ensures ∙ kept_if c.put_at-put.result.reply b.kept (sym c.accepted_by-accepted.ensures ∙ c.if-accepted.true))
+    (put_does c.args.desk b _ _ _ c.index_of-at.ensures.1 refl _ _ c.put_at-put.ensures.0)
+
+pub returns-else-accepted : goal.returns-else-accepted
+returns-else-accepted c =
+    let b = c.args.b in
+    stored_with b _ _ c.put_at-put.result _ (kept_else c.put_at-put.result.reply b.kept (sym c.accepted_by-accepted.ensures ∙ c.if-accepted.false))
+    (put_does c.args.desk b _ _ _ c.index_of-at.ensures.1 refl _ _ c.put_at-put.ensures.0)

@@ -1,8 +1,7 @@
 // The rebate run of M-108 over a lent list of accounts.
 // Promise: `run` answers what `run_of` of crate rebates says and leaves the list as `after_run` says, on refused input too. It requires document 01's
-// own sentence on the book, `Reachable`. The borrow checker covers no function over a slice of structs, so each of these is proved by a walk of
-// its code, by hand. They are thin: what is worked out for an account is worked out by crate rebates, by value. The book is not copied
-// for each account. `run_first` and `run_many` take an array by value, so that whoever calls them needs no walk.
+// own sentence on the book, `Reachable`. The functions are thin: what is worked out for an account is worked out by crate rebates, by value. The
+// book is not copied for each account. `run_first` and `run_many` take an array by value, of which a part is the list.
 #![tactic(auto)]
 
 ghost use Rattle.std.specs.Prelude.{◌≡◌, map, ◌++◌, ◌<◌, ◌≤◌, length, get_or, set, take, drop};

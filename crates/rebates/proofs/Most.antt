@@ -15,7 +15,7 @@ use Rattle.tariff.specs.declared.Tariff.{Tariff}
 use Rattle.tariff.specs.Tariff.{standing_in, valid_tariff}
 use Rattle.tariff.proofs.Validity.{valid_standing_in}
 use Rattle.charge.specs.Charge.{arrangement, month_charge, charge}
-use Rattle.charge.specs.Most.{months_most, month_charge_most}
+use Rattle.charge.specs.Most.{month_charge_most}
 use Rattle.charge.proofs.Months.{charge_monthly}
 use Rattle.charge.proofs.TariffTiers.{month_most_lem}
 use Rattle.cap.specs.Cap.{scale, charged, Months}

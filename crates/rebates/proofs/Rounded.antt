@@ -1,17 +1,16 @@
 -- "charge less maximum in mills, rounded up, or 0": the rebate is the least number of mills that is enough, and the code's division gives it.
 -- Assumes nothing.
-use mathlib.Core.Path.{◌≡◌, sym}
-use mathlib.Core.Bool.{Bool, true, false}
+use mathlib.Core.Path.{◌≡◌}
+use mathlib.Core.Bool.{Bool}
 use Prim.Native.Nat.{ℕ, ◌+◌, ◌-◌, ◌*◌, ◌/◌, ◌≤◌, ◌<◌}
 use native.Mathlib.Decide.{dec_lt}
-use native.Mathlib.Nat.{div-lt_iff_lt-mul, lt-div-mul-add, suc-mul, le-mul_of_pos_right, mul-le-mul_right}
+use native.Mathlib.Nat.{div-lt_iff_lt-mul, lt-div-mul-add, suc-mul, le-mul_of_pos_right}
 use native.Mathlib.Numerals.{add-one}
 use native.Mathlib.Omega.{arith}
 use lib.Dec.{leb}
 use borrow.Author.Tests.{leb-true, leb-false, le-leb, lt-leb}
 use Rattle.laws.specs.Least.{Least}
 use Rattle.laws.proofs.Least.{least_is, least_one}
-use Rattle.laws.proofs.Never.{never}
 use Rattle.queries.specs.Queries.{Quotation}
 use Rattle.rebates.specs.Rebates.{rebate_of}
 

@@ -1,7 +1,7 @@
 -- How the code goes about the run: one search for the first account that 19 or 18 refuses, and the answers that it makes. Only the code's own
 -- functions are promised in these words; specs/Rebates.antt does without them.
 -- Assumes nothing.
-use Rattle.std.specs.Prelude.{Bool, cond, List, [], ℕ, eqb}
+use Rattle.std.specs.Prelude.{Bool, cond, [], ℕ, eqb}
 use Rattle.std.proofs.Math.Option.{Option, none, some}
 use Rattle.book.specs.declared.Book.{Book}
 use Rattle.rebates.specs.declared.Account.{Account}

@@ -3,7 +3,7 @@
 use mathlib.Core.Path.{◌≡◌, refl, sym, ◌∙◌, ap}
 use mathlib.Core.Bool.{Bool, true, cond}
 use mathlib.Core.List.{List, ◌∷◌, ◌++◌}
-use Prim.Native.Nat.{ℕ, zero, suc, ◌+◌, ◌-◌, ◌*◌, ◌/◌, ◌%◌, ◌≤◌, ◌<◌}
+use Prim.Native.Nat.{ℕ, zero, suc, ◌+◌, ◌-◌, ◌/◌, ◌%◌, ◌≤◌, ◌<◌}
 use native.Mathlib.Decide.{dec_le}
 use native.Mathlib.Omega.{arith}
 use lib.Dec.{eqb}
@@ -22,8 +22,8 @@ use Rattle.book.specs.declared.Stood.{Stood}
 use Rattle.book.specs.declared.State.TheVariants.{Empty}
 use Rattle.book.specs.Book.{beyond, tariff_in, stood_as}
 use Rattle.image.specs.Layout.{word_count, mark, loaded_at, fields_at, period_at, charges_at, levels_at, peak_at, months_at, days_at, kept_at, kept_loaded_at, kept_fields_at, kept_period_at, kept_states_at, places_at, place_words, record_at, start_of}
-use Rattle.image.specs.Image.{word, words, state_number, state_of, flag_of, place_at, figures_in, places_in, states_in, kept_in, book_in, is_image, Canonical}
-use Rattle.image.proofs.Reading.{image_size, word_at, length_words}
+use Rattle.image.specs.Image.{word, words, state_number, state_of, flag_of, place_at, figures_in, states_in, kept_in, book_in, is_image, Canonical}
+use Rattle.image.proofs.Reading.{image_size, word_at}
 use Rattle.image.proofs.Places.{place_there}
 use Rattle.image_book.specs.OneImage.{OneImage}
 

@@ -1,11 +1,10 @@
 -- Tests that tell exactly whether something holds, one after another; and states that have the same number.
 -- Assumes nothing.
 use mathlib.Core.Path.{◌≡◌, refl, sym, ◌∙◌, ap}
-use mathlib.Core.Bool.{Bool, true, false, not}
+use mathlib.Core.Bool.{Bool, true, false}
 use mathlib.Core.Logic.{◌↔◌}
 use mathlib.Core.Option.{none, some}
 use Prim.Native.Nat.{ℕ, zero, suc}
-use borrow.Author.Tests.{not-true, not-false}
 use Rattle.laws.proofs.Never.{never}
 use Rattle.book.specs.declared.State.{State}
 use Rattle.book.specs.declared.State.TheVariants.{Empty, Draft, Marked, Open}
@@ -17,12 +16,12 @@ pub denied : {P : Type 0} → (P → ◌≡◌ {A = Bool} false true) → (false
 denied f = (λ z. never (cc), f)
 
 -- one of the tests says no, and the whole asks for what it tests
-pub fails : {P Q : Type 0} (t : Bool) → ((t ≡ true) ↔ Q) → not t ≡ true → (P → Q) → (false ≡ true) ↔ P
-fails t h e f = denied (λ p. sym (not-true t e) ∙ h.1 (f p))
+pub fails : {P Q : Type 0} (t : Bool) → ((t ≡ true) ↔ Q) → t ≡ false → (P → Q) → (false ≡ true) ↔ P
+fails t h e f = denied (λ p. sym e ∙ h.1 (f p))
 
 -- a test that does not say no
-pub held : {Q : Type 0} (t : Bool) → ((t ≡ true) ↔ Q) → not t ≡ false → Q
-held t h e = h.0 (not-false t e)
+pub held : {Q : Type 0} (t : Bool) → ((t ≡ true) ↔ Q) → t ≡ true → Q
+held t h e = h.0 e
 
 -- the last test decides
 pub decides : {P Q : Type 0} (t : Bool) → ((t ≡ true) ↔ Q) → (Q → P) → (P → Q) → (t ≡ true) ↔ P

@@ -39,6 +39,11 @@ stopped i = record { from = i.from; to = i.to; cut = i.cut; more = i.more; ended
 abbrev pub grown : Input → ℕ → Input
 grown i n = record { from = i.from; to = i.to + n; cut = i.cut; more = i.more; ended = i.ended; on = i.on }
 
+-- what the system may answer to a `read` that is handed n bytes: -1, or how many bytes it moved, at most n
+abbrev pub Moved : ℕ → ℤ → Type 0
+Moved n (pos k) = k ≤ n
+Moved n (negsuc k) = k ≡ 0
+
 -- what is made of the system's answer to `read`: below 0 it failed, and the desk does not go on; 0 is the end of the input; any other is
 -- the number of bytes that were read
 abbrev pub AfterRead : (got : ℤ) (i : Input) (before : List ℕ) (r : Input) (after : List ℕ) → Type 0

@@ -6,9 +6,8 @@
 #![tactic(auto)]
 
 ghost use Rattle.std.specs.Prelude.{◌≡◌, ◌-◌, ◌≤◌, ◌<◌, length, take};
-ghost use Rattle.libc.specs.Io.{Moved};
 ghost use Rattle.lines.specs.Words.{between};
-ghost use Rattle.input.specs.Input.{Holds, at_front, Keeps, Closes, stopped, AfterRead, after_write};
+ghost use Rattle.input.specs.Input.{Holds, at_front, Keeps, Closes, stopped, Moved, AfterRead, after_write};
 
 // The bytes from..to of the buffer are read and not yet taken; `cut`: the start of their line was dropped, since it is too long;
 // `more`: a whole line is among them; `ended`: there is no more input; `on`: whether to go on.
@@ -99,7 +98,7 @@ pub fn after_read(i: Input, got: isize, input: &mut [u8]) -> Input
         return stop(i);
     }
     let left = i.to;
-    let n = io::count(got, &input[left..]);
+    let n = got as usize;
     if n == 0 {
         return close_input(i, input);
     }

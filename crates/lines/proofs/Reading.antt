@@ -11,12 +11,11 @@ use lib.Dec.{leb}
 use lib.ListN.{length, get_or, take, drop, set, length-drop, drop_of_length-le}
 use lib.Seq.{drop-drop, take-suc-set, append_snoc}
 use borrow.Author.Tests.{le-leb, lt-leb}
-use Rattle.bytes.specs.Bytes.{index_of}
 use Rattle.lines.specs.declared.Number.{Number}
 use Rattle.lines.specs.declared.Number.TheVariants.{Value, Not}
 use Rattle.lines.specs.declared.Numbers.{Numbers}
 use Rattle.lines.specs.declared.Numbers.TheVariants.{All, Bad}
-use Rattle.lines.specs.Words.{parts, not_empty, words, word_in, spaces}
+use Rattle.lines.specs.Words.{index_of, parts, not_empty, words, word_in, spaces}
 use Rattle.lines.specs.Numerals.{digit, digits, value_after, value, numeral, number_at, behind, numbers_in}
 use Rattle.lines.proofs.Splitting.{index_within, word_more, word_length, first_word, words_spaces, spaces_none}
 
@@ -24,7 +23,7 @@ use Rattle.lines.proofs.Splitting.{index_within, word_more, word_length, first_w
 grows : (v : ℕ) (ds : List ℕ) → v ≤ value_after v ds
 unfolding value_after
 grows v [] = omega arith
-grows v (d ∷ ds) = le_trans (omega arith) (grows _ ds)
+grows v (d ∷ ds) = le_trans (omega arith) (grows (10 * v + (d - 48)) ds)
 
 -- a list is a numeral, or not
 is_numeral : (w : List ℕ) → 0 < length w → digits w ≡ true → value w ≤ 4294967295 → numeral w ≡ true

@@ -3,38 +3,30 @@
 use mathlib.Core.Path.{◌≡◌, refl, ◌∙◌, ap}
 use mathlib.Core.Bool.{Bool, true, false, cond}
 use mathlib.Core.List.{List, [], ◌∷◌}
-use Prim.Native.Nat.{ℕ, zero, suc, ◌+◌, ◌-◌, ◌<◌, ◌≤◌}
-use native.Mathlib.Nat.{suc-sub-suc, zero-sub, sub-zero}
+use Prim.Native.Nat.{ℕ, suc, ◌+◌, ◌-◌, ◌<◌, ◌≤◌}
 use native.Mathlib.Numerals.{add-one}
 use native.Mathlib.Omega.{arith}
 use lib.Dec.{eqb}
 use lib.ListN.{length, get_or, take, drop, drop_of_length-le, length-take, length-drop}
-use lib.Seq.{drop-cons, take-take, take-length, get_or-take, get_or-drop}
+use lib.Seq.{drop-cons, take-take, get_or-take, get_or-drop}
 use borrow.Author.Tests.{eq-eqb, ne_eqb}
-use Rattle.bytes.specs.Bytes.{slice, index_of, index_after}
-use Rattle.lines.specs.Words.{onto, parts, not_empty, words, spaces, word_in, without_return}
+use Rattle.std.proofs.lemmas.List.Recursion.{is_position_or_len}
+use Rattle.std.proofs.lemmas.List.Sums.{position_or_len_is}
+use Rattle.lines.specs.Words.{index_of, index_after, onto, parts, not_empty, words, spaces, word_in, without_return}
 
--- a part of a list, cut at its end first or at its start first
-pub cut : (f t : ℕ) (xs : List ℕ) → drop f (take t xs) ≡ take (t - f) (drop f xs)
-cut zero t xs = rw sub-zero
-cut (suc f) zero xs = rw zero-sub refl
-cut (suc f) (suc t) [] = rw suc-sub-suc (go (t - f))
+-- the first place at which a byte stands, or the end
+pub first_place : (b : ℕ) (xs : List ℕ) (i : ℕ) → i ≤ length xs → ((k : ℕ) → k < i → eqb (get_or xs k 0) b ≡ false)
+    → (i < length xs → eqb (get_or xs i 0) b ≡ true) → index_of b xs ≡ i
+unfolding index_of
+first_place b xs i h before at =
+    is_position_or_len (index_of b) (λ x. eqb x b) refl (λ x xs. step x xs (eqb x b)) xs ∙ position_or_len_is (λ x. eqb x b) xs i 0 h before at
   where
-    go : (n : ℕ) → ◌≡◌ {A = List ℕ} [] (take n [])
-    go zero = refl
-    go (suc n) = refl
-cut (suc f) (suc t) (x ∷ xs) = rw suc-sub-suc (cut f t xs)
-
-pub found : (s : List ℕ) (f t : ℕ) → f + index_of 10 (slice f t s) ≡ f + index_of 10 (take (t - f) (drop f s))
-unfolding slice
-found s f t = rw cut
-
-pub found_to_end : (s : List ℕ) (f : ℕ) → f + index_of 32 (slice f (length s) s) ≡ f + index_of 32 (drop f s)
-unfolding slice
-found_to_end s f = rw take-length
+    step : (x : ℕ) (xs : List ℕ) (t : Bool) → index_after t (index_of b xs) ≡ cond t 0 (1 + index_of b xs)
+    step x xs true = refl
+    step x xs false = omega arith
 
 pub index_within : (b : ℕ) (xs : List ℕ) → index_of b xs ≤ length xs
-unfolding index_of index_after
+unfolding index_of
 index_within b [] = omega arith
 index_within b (x ∷ xs) = go (eqb x b) (index_within b xs)
   where
@@ -68,11 +60,11 @@ module _ (line : List ℕ) (i : ℕ) where
 
 -- what stands before the first space
 index_space : (b : ℕ) (bs : List ℕ) → b ≡ 32 → index_of 32 (b ∷ bs) ≡ 0
-unfolding index_of index_after
+unfolding index_of
 index_space b bs e = rw (eq-eqb b 32 e)
 
 index_other : (b : ℕ) (bs : List ℕ) → (b ≡ 32 → ⊥) → index_of 32 (b ∷ bs) ≡ suc (index_of 32 bs)
-unfolding index_of index_after
+unfolding index_of
 index_other b bs e = rw (ne_eqb b 32 e)
 
 pub word_length : (xs : List ℕ) → length (word_in xs) ≡ index_of 32 xs
@@ -95,7 +87,7 @@ others at [] = []
 others at (b ∷ bs) = parts at bs
 
 pub first_part : (at : ℕ) (xs : List ℕ) → parts at xs ≡ take (index_of at xs) xs ∷ others at (drop (index_of at xs) xs)
-unfolding parts index_of index_after
+unfolding parts index_of
 first_part at [] = refl
 first_part at (b ∷ bs) = go (eqb b at) (first_part at bs)
   where
@@ -106,7 +98,7 @@ first_part at (b ∷ bs) = go (eqb b at) (first_part at bs)
 
 -- where a first part ends, there is a space or nothing, and no word begins before it
 behind_part : (xs : List ℕ) → not_empty (others 32 (drop (index_of 32 xs) xs)) ≡ words (drop (index_of 32 xs) xs)
-unfolding words parts not_empty index_of index_after
+unfolding words parts not_empty index_of
 behind_part [] = refl
 behind_part (b ∷ bs) = go (eqb b 32) refl (behind_part bs)
   where
@@ -117,7 +109,7 @@ behind_part (b ∷ bs) = go (eqb b 32) refl (behind_part bs)
 
 -- a line that begins with no space begins with its first word
 pub first_word : (xs : List ℕ) → 0 < length xs → spaces xs ≡ 0 → words xs ≡ word_in xs ∷ words (drop (index_of 32 xs) xs)
-unfolding words not_empty index_of index_after spaces
+unfolding words not_empty index_of spaces
 first_word [] h e = absurd (omega arith)
 first_word (b ∷ bs) h e = ap not_empty (first_part 32 (b ∷ bs)) ∙ go (eqb b 32) refl
   where
@@ -128,7 +120,7 @@ first_word (b ∷ bs) h e = ap not_empty (first_part 32 (b ∷ bs)) ∙ go (eqb 
 
 -- and its first byte is the word's
 pub first_byte : (xs : List ℕ) → 0 < length xs → spaces xs ≡ 0 → get_or (word_in xs) 0 0 ≡ get_or xs 0 0
-unfolding index_of index_after spaces
+unfolding index_of spaces
 first_byte [] h e = absurd (omega arith)
 first_byte (b ∷ bs) h e = go (eqb b 32) refl
   where

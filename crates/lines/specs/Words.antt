@@ -1,7 +1,15 @@
 -- The words of a line of bytes, and where a line ends.
 -- Assumes nothing.
-use Rattle.std.specs.Prelude.{cond, List, [], ◌∷◌, ℕ, suc, ◌-◌, eqb, length, get_or, take, drop}
-use Rattle.bytes.specs.Bytes.{index_of}
+use Rattle.std.specs.Prelude.{Bool, true, false, cond, List, [], ◌∷◌, ℕ, suc, ◌-◌, eqb, length, get_or, take, drop}
+
+-- the index of the first byte b of a list, or its length where there is none
+abbrev pub index_after : Bool → ℕ → ℕ
+index_after true n = 0
+index_after false n = suc n
+
+unfoldable pub index_of : ℕ → List ℕ → ℕ
+index_of b [] = 0
+index_of b (x ∷ xs) = index_after (eqb x b) (index_of b xs)
 
 -- a byte in front of the first part, of which there is always one
 abbrev pub onto : ℕ → List (List ℕ) → List (List ℕ)

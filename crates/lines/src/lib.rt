@@ -4,9 +4,10 @@
 #![tactic(auto)]
 
 ghost use Rattle.std.specs.Prelude.{◌≡◌, ◌+◌, ◌-◌, ◌≤◌, length, take, drop};
-ghost use Rattle.bytes.specs.Bytes.{index_of};
-ghost use Rattle.lines.specs.Words.{words, spaces, without_return};
+ghost use Rattle.lines.specs.Words.{index_of, words, spaces, without_return};
 ghost use Rattle.lines.specs.Numerals.{number_at, numbers_in, Written};
+
+use memchr::memchr;
 
 // A number and the place behind it, or a word that is no number.
 #[derive(Clone, Copy)]
@@ -22,13 +23,25 @@ pub enum Numbers {
     Bad(usize),
 }
 
+// The place of the first byte `b` of s[from..to], or `to`.
+fn find(s: &[u8], from: usize, to: usize, b: u8) -> usize
+    requires { (from ≤ to) × (to ≤ length s.now) }
+    ensures value { result ≡ from + index_of b (take (to - from) (drop from s.now)) }
+    ensures upper_bound { result ≤ to }
+{
+    match memchr(b, &s[from..to]) {
+        Some(k) => from + k,
+        None => to,
+    }
+}
+
 // The place of the first line feed of s[from..to], or `to`.
 pub fn line_end(s: &[u8], from: usize, to: usize) -> usize
     requires { (from ≤ to) × (to ≤ length s.now) }
     ensures value { result ≡ from + index_of 10 (take (to - from) (drop from s.now)) }
     ensures lower_bound { (from ≤ result) × (result ≤ to) }
 {
-    bytes::scan::find(s, from, to, b'\n')
+    find(s, from, to, b'\n')
 }
 
 // The end of the line s[from..to], less a carriage return at its end.
@@ -69,7 +82,7 @@ pub fn word_end(line: &[u8], from: usize) -> usize
     ensures value { result ≡ from + index_of 32 (drop from line.now) }
     ensures upper_bound { result ≤ length line.now }
 {
-    bytes::scan::find(line, from, line.len(), b' ')
+    find(line, from, line.len(), b' ')
 }
 
 // The number that begins at `from`. A word is left at its first byte that is no digit, and once its value is too large.

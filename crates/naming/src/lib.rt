@@ -142,7 +142,7 @@ pub fn call_named(word: &[u8]) -> Named
     let form = form_of(call);
     let name = form.name;
     let size = form.size;
-    if check::same(word, &name[..size]) {
+    if word == &name[..size] {
         return Named::By(call);
     }
     Named::None

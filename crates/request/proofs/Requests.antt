@@ -1,29 +1,38 @@
 -- Laws of what a line asks for, as it is read.
 -- Assumes nothing.
 use mathlib.Core.Path.{◌≡◌, refl, sym, ◌∙◌, ap, subst⁻¹}
-use mathlib.Core.Bool.{Bool, true, false, cond}
+use mathlib.Core.Bool.{Bool, true, false, cond, ◌&&◌}
 use mathlib.Core.List.{List, [], ◌∷◌, map}
 use Prim.Native.Nat.{ℕ, ◌+◌, ◌-◌, ◌<◌, ◌≤◌}
 use native.Mathlib.Decide.{dec_le}
 use native.Mathlib.Omega.{arith}
+use lib.Dec.{eqb}
 use lib.ListN.{length, get_or, take, drop, drop_of_length-le, length-drop}
 use lib.Seq.{drop-drop, get_or-drop}
 use borrow.Author.Tests.{eq-eqb, ne_eqb}
-use Rattle.bytes.specs.Bytes.{index_of}
+use Rattle.std.specs.Cmp.Lexicographic.{pointwise}
 use Rattle.tariff.specs.Tariff.{all_fourteen}
 use Rattle.lines.specs.declared.Number.TheVariants.{Value, Not}
 use Rattle.lines.specs.declared.Numbers.TheVariants.{All, Bad}
-use Rattle.lines.specs.Words.{parts, not_empty, words, word_in, spaces}
+use Rattle.lines.specs.Words.{index_of, parts, not_empty, words, word_in, spaces}
 use Rattle.lines.specs.Numerals.{value, numeral, number_at, numbers_in}
 use Rattle.lines.proofs.Splitting.{index_within, word_length, first_word, first_byte}
 use Rattle.lines.proofs.Reading.{some_numeral, told, number_told, value_told, words_passed, none_left}
 use Rattle.naming.specs.declared.Word.{Word}
 use Rattle.naming.specs.declared.Named.TheVariants.{By, None}
-use Rattle.naming.specs.Naming.{calls, arity, right_count, named}
+use Rattle.naming.specs.Naming.{calls, arity, right_count, same, named}
 use Rattle.naming.proofs.Counts.{counted}
 use Rattle.request.specs.declared.Request.{Request}
 use Rattle.request.specs.declared.Request.TheVariants.{Nothing, Asks, NoCall, Unknown, NotANumber, WrongCount}
 use Rattle.request.specs.Requests.{asked_by, call_in, desk_line, names_desk, asked_in, request_of, numbers_of, Ready}
+
+-- the library's test of two texts is the test of the definitions
+pub same_test : (xs ys : List ℕ) → pointwise eqb xs ys ≡ same xs ys
+unfolding same
+same_test [] [] = refl
+same_test [] (y ∷ ys) = refl
+same_test (x ∷ xs) [] = refl
+same_test (x ∷ xs) (y ∷ ys) = ap (λ t. eqb x y && t) (same_test xs ys)
 
 -- no word stands from `from` on
 pub no_words : (line : List ℕ) (from start : ℕ) → start ≡ from + spaces (drop from line) → start ≡ length line → words (drop from line) ≡ []
@@ -35,6 +44,10 @@ pub record WordAt (line : List ℕ) (from start end : ℕ) : Type 0 where
   pub begins : start ≡ from + spaces (drop from line)
   pub within : start < length line
   pub ends : end ≡ start + index_of 32 (drop start line)
+
+pub word_at : {line : List ℕ} {from start end : ℕ} → start ≡ from + spaces (drop from line) → start ≤ length line → (start ≡ length line → ⊥)
+    → end ≡ start + index_of 32 (drop start line) → WordAt line from start end
+word_at b w n e = record { begins = b; within = omega arith; ends = e }
 
 module _ {line : List ℕ} {from start end : ℕ} (f : WordAt line from start end) where
   some_left : 0 < length (drop start line)

@@ -31,7 +31,7 @@ pub enum Request {
 fn names_desk(word: &[u8]) -> bool
     ensures { result ≡ names_desk word.now }
 {
-    check::same(word, b"desk")
+    word == b"desk".as_slice()
 }
 
 // What a desk asks for, its call standing from `from` on, behind so many words of the line.

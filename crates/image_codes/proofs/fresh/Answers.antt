@@ -6,16 +6,15 @@ use Prim.Native.Nat.{ℕ, ◌+◌, ◌≤◌, ◌<◌}
 use native.Mathlib.Omega.{arith}
 use lib.ListN.{length, set, length-set}
 use lib.Seq.{get_or-set_same, get_or-set_other}
-use borrow.Author.Rules.{rules}
 use Rattle.image.specs.Layout.{word_count, mark}
 use Rattle.image.specs.Image.{word}
 use Rattle.image.specs.Changing.{no_book, Written}
 use Rattle.image.proofs.Fresh.{fresh_book, fresh_canonical, is_an_image}
 use Rattle.image_codes.specs.Storing.{FreshImage}
-use Rattle.image_codes.proofs.fresh.Statement.{statement}
-use Rattle.image_codes.proofs.fresh.Tie as tie
+use Rattle.image_codes.proofs.fresh.Goals as goal
 
 -- another number of words
+
 no_room : (l : List ℕ) → (length l ≡ word_count → ⊥) → FreshImage l no_book l
 no_room l n =
     record {
@@ -28,6 +27,7 @@ no_room l n =
     }
 
 -- zeros, and the mark over the first of them
+
 made : (l k : List ℕ) → length l ≡ word_count → Written l k 0 word_count (λ j. 0) → FreshImage l 0 (set k 0 mark)
 made l k e w =
     record {
@@ -42,22 +42,6 @@ made l k e w =
     nought : (j : ℕ) → 1 ≤ j → j < word_count → word (set k 0 mark) j ≡ 0
     nought j a b = get_or-set_other k 0 j mark 0 (λ q. omega arith) ∙ (let e : 0 + j ≡ j = omega arith in subst (λ n. word k n ≡ 0) e (w.inside j b))
 
-returns : tie.Need-returns
-returns c = no_room _ c.if1.true
-
-clear-requires : tie.Need-clear-requires
-clear-requires c κs = search rules
-
-slice-write-image : tie.Need-slice-write-image
-slice-write-image c = search rules
-
-same_length : tie.Need-same-length
-same_length c = search rules
-
-returns_2 : tie.Need-returns-2
-returns_2 c =
-    let cleared = c.before.before in
-    made _ _ cleared.before.before.if1.false cleared.clear.ensures
-
-pub fresh-spec : {M : Type 1} → statement M
-fresh-spec = tie.close (tie.spec returns clear-requires slice-write-image same_length returns_2)
+pub returns : goal.returns
+returns c =
+    made _ _ c.if-image-ne-WORD_COUNT.false c.clear.ensures

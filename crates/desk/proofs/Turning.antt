@@ -7,9 +7,8 @@ use Prim.Native.Nat.{ℕ, zero, suc, ◌+◌, ◌-◌, ◌<◌, ◌≤◌}
 use native.Mathlib.Omega.{arith}
 use lib.IntN.{ℤ, pos, negsuc}
 use lib.ListN.{length}
-use Rattle.libc.specs.Io.{Moved}
 use Rattle.input.specs.declared.Input.{Input}
-use Rattle.input.specs.Input.{Holds, is_left, stopped, AfterRead, after_write}
+use Rattle.input.specs.Input.{Holds, Moved, is_left, stopped, AfterRead, after_write}
 use Rattle.input.proofs.Kept.{stopped_holds}
 use Rattle.taking.specs.declared.Desk.{Desk}
 use Rattle.desk.specs.Desk.{Reads, Flushes, Turns, Steady, Turned, turn_more}

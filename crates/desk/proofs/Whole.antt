@@ -100,7 +100,7 @@ one_more {b = b} {l} {cut} j line h =
       all = ap (λ xs. xs ++ line ++ (10 ∷ [])) j.all ∙ simp (append_assoc, append-nil);
     }
 
-join : {done text bytes t : List ℕ} {b b' : Book} {l l' : ℕ} {cut cut' : Bool} → Joined done b l cut text → Takes b l cut bytes b' l' cut' t
+join : {b : Book} {l : ℕ} {cut : Bool} {done text bytes t : List ℕ} {b' : Book} {l' : ℕ} {cut' : Bool} → Joined done b l cut text → Takes b l cut bytes b' l' cut' t
     → Joined (done ++ bytes) b' l' cut' (text ++ t)
 join {done} {text} j none_taken = joined_as (sym (append-nil done)) (sym (append-nil text)) j
 join {done} {text} j (line_taken {text = t} line k h) = joined_as (simp append_assoc) (append_assoc text t _) (one_more (join j k) line h)
@@ -280,7 +280,7 @@ took_marks {i = i} {input = input} {r = r} t last =
           (takes_cut t.takes));
     }
 
-accounts : {d : Desk} {input₀ out₀ input out : List ℕ} {n : ℕ} → length input₀ ≡ 65536 → (t : Turned at_start input₀ out₀ n d input out)
+accounts : {input₀ out₀ : List ℕ} {n : ℕ} {d : Desk} {input out : List ℕ} → length input₀ ≡ 65536 → (t : Turned at_start input₀ out₀ n d input out)
     → Account (read_in t) (answers_in t) d.book d.lines d.input input × Marks d.input input
 unfolding read_in answers_in has_feed
 accounts e none_yet = (

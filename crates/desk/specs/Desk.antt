@@ -2,11 +2,10 @@
 -- Assumes nothing. Nothing here says which bytes the system's `read` and `write` move, nor what they answer: a definition that goes by an
 -- answer takes it as it came.
 use Rattle.std.specs.Prelude.{◌≡◌, Bool, true, false, List, ◌⊎◌, ℕ, ◌+◌, ◌-◌, ◌^◌, ◌≤◌, ℤ, length, take}
-use Rattle.libc.specs.Io.{Moved}
 use Rattle.book.specs.Book.{fresh, Reachable}
 use Rattle.lines.specs.Words.{longest_line}
 use Rattle.input.specs.declared.Input.{Input}
-use Rattle.input.specs.Input.{Holds, Keeps, stopped, AfterRead, after_write}
+use Rattle.input.specs.Input.{Holds, Keeps, stopped, Moved, AfterRead, after_write}
 use Rattle.taking.specs.declared.Desk.{Desk}
 use Rattle.taking.specs.Taking.{Took}
 

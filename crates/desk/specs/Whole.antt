@@ -24,11 +24,11 @@ added_by (at_end a b c d e) = []
 added_by (reads a b c kept front k r) = added r.got kept r.into
 
 -- all that was read in some turns, and the text of all their answers
-unfoldable pub read_in : {d₀ d : Desk} {input₀ out₀ input out : List ℕ} {n : ℕ} → Turned d₀ input₀ out₀ n d input out → List ℕ
+unfoldable pub read_in : {d₀ : Desk} {input₀ out₀ : List ℕ} {n : ℕ} {d : Desk} {input out : List ℕ} → Turned d₀ input₀ out₀ n d input out → List ℕ
 read_in none_yet = []
 read_in (turn_more t on u) = read_in t ++ added_by u.fills
 
-unfoldable pub answers_in : {d₀ d : Desk} {input₀ out₀ input out : List ℕ} {n : ℕ} → Turned d₀ input₀ out₀ n d input out → List ℕ
+unfoldable pub answers_in : {d₀ : Desk} {input₀ out₀ : List ℕ} {n : ℕ} {d : Desk} {input out : List ℕ} → Turned d₀ input₀ out₀ n d input out → List ℕ
 answers_in none_yet = []
 answers_in (turn_more t on u) = answers_in t ++ u.took.text
 

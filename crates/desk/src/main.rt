@@ -15,23 +15,27 @@ ghost use Rattle.input.specs.Input.{Holds};
 ghost use Rattle.desk.specs.Desk.{Reads, Fills, Flushes, Steady, Turns, at_start, Runs};
 
 use input::Input;
+use std::io::{Read, Write};
 use taking::Desk;
 
 // Reads what is there, behind what was kept.
-fn read_more(i: Input, input: &mut [u8]) -> Input
+fn read_more<R: Read, E: Write>(i: Input, input: &mut [u8], stdin: &mut R, stderr: &mut E) -> Input
     requires { i.to < length input.old }
     ensures { Reads i input.old result input.new }
 {
     let left = i.to;
-    let answer = libc::read(0, &mut input[left..]);
-    if answer < 0 {
-        io::write_all(2, b"desk: standard input cannot be read\n");
-    }
+    let answer = match stdin.read(&mut input[left..]) {
+        Ok(n) => n as isize,
+        Err(_) => {
+            let _ = stderr.write_all(b"desk: standard input cannot be read\n");
+            -1
+        }
+    };
     input::after_read(i, answer, input)
 }
 
 // More of the input, where no whole line is left of it.
-fn fill(i: Input, input: &mut [u8]) -> Input
+fn fill<R: Read, E: Write>(i: Input, input: &mut [u8], stdin: &mut R, stderr: &mut E) -> Input
     requires { Holds i (length input.old) × (length input.old ≡ 65536) }
     ensures fills { Fills i input.old result input.new }
     ensures holds { Holds result (length input.old) }
@@ -45,28 +49,43 @@ fn fill(i: Input, input: &mut [u8]) -> Input
     if i.ended {
         return input::stop(i);
     }
-    read_more(input::keep(i, input), input)
+    read_more(input::keep(i, input), input, stdin, stderr)
 }
 
 // Writes the answers out.
-fn flush(i: Input, out: &[u8], at: usize) -> Input
+fn flush<W: Write, E: Write>(
+    i: Input,
+    out: &[u8],
+    at: usize,
+    stdout: &mut W,
+    stderr: &mut E,
+) -> Input
     requires { at ≤ length out.now }
     ensures { Flushes i result }
 {
-    let written = io::write_all(1, &out[..at]);
+    let written = stdout.write_all(&out[..at]).is_ok();
     if !written {
-        io::write_all(2, b"desk: standard output cannot be written\n");
+        let _ = stderr.write_all(b"desk: standard output cannot be written\n");
     }
     input::after_write(i, written)
 }
 
 // A turn: the answers are written out before more is read, and more lines are taken.
-fn turn(d: Desk, input: &mut [u8], numbers: &mut [u32], out: &mut [u8]) -> Desk
+fn turn<R: Read, W: Write, E: Write>(
+    d: Desk,
+    input: &mut [u8],
+    numbers: &mut [u32],
+    out: &mut [u8],
+    stdin: &mut R,
+    stdout: &mut W,
+    stderr: &mut E,
+) -> Desk
     requires { Steady d (length input.old) (length numbers.old) (length out.old) }
     ensures turns { Turns d input.old out.old result input.new out.new }
     ensures steady { Steady result (length input.old) (length numbers.old) (length out.old) }
 {
-    let i = fill(flush(d.input, out, d.at), input);
+    let flushed = flush(d.input, out, d.at, stdout, stderr);
+    let i = fill(flushed, input, stdin, stderr);
     let b = d.book;
     taking::take_lines(b, d.lines, i, input, numbers, out)
 }
@@ -92,14 +111,21 @@ fn start() -> Desk
 
 // Turn after turn, as long as the desk goes on; what it ends with. A proved loop has to end, and nothing says that the input does: so the
 // turns are counted down, from a number that no run uses up.
-fn run(input: &mut [u8], numbers: &mut [u32], out: &mut [u8]) -> Desk
+fn run<R: Read, W: Write, E: Write>(
+    input: &mut [u8],
+    numbers: &mut [u32],
+    out: &mut [u8],
+    stdin: &mut R,
+    stdout: &mut W,
+    stderr: &mut E,
+) -> Desk
     requires { (length input.old ≡ 65536) × (length numbers.old ≡ longest_line) × (length out.old ≡ 65536) }
     ensures { Runs input.old out.old result input.new out.new }
 {
     let mut d = start();
     let mut turns = u64::MAX;
     while turns > 0 && d.input.on {
-        d = turn(d, input, numbers, out);
+        d = turn(d, input, numbers, out, stdin, stdout, stderr);
         turns -= 1;
     }
     d
@@ -112,9 +138,19 @@ fn no_numbers() -> [u32; 16384]
     [0; 16384]
 }
 
-fn main() {
-    let mut input = io::large_buffer();
+fn main(rt: HostRuntime) {
+    let mut input = [0u8; 65536];
     let mut numbers = no_numbers();
-    let mut out = io::large_buffer();
-    run(&mut input, &mut numbers, &mut out);
+    let mut out = [0u8; 65536];
+    let mut stdin = rt.stdin();
+    let mut stdout = rt.stdout();
+    let mut stderr = rt.stderr();
+    run(
+        &mut input,
+        &mut numbers,
+        &mut out,
+        &mut stdin,
+        &mut stdout,
+        &mut stderr,
+    );
 }

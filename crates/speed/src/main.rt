@@ -13,10 +13,11 @@ ghost use Rattle.book.specs.Book.{Reachable};
 use book::{Book, Reply};
 use calendar::Period;
 use codes::CodeAct;
-use libc::STDOUT_FILENO;
 use queries::Told;
 use rebates::{Account, Run};
 use sheet::FIELD_COUNT;
+use std::env::Env;
+use std::io;
 use tariff::{ALL_FOURTEEN, RECORD_LENGTH};
 
 // The reference sheet, with network costs lower by 1,000,000 in the last region.
@@ -556,9 +557,8 @@ fn measured(measurement: u64, calls: u64) -> u64 {
     }
 }
 
-fn print(sum: u64) {
-    io::print_decimal(STDOUT_FILENO, sum);
-    io::write_all(STDOUT_FILENO, b"\n");
+fn print(rt: &impl Print, sum: u64) -> io::Result<()> {
+    println!(rt; "{sum}")
 }
 
 fn digit(c: u8) -> u64
@@ -584,21 +584,23 @@ fn number(text: &[u8]) -> u64 {
     n
 }
 
-// The number that stands as an argument.
-fn argument(i: usize) -> u64 {
+// The number that stands as an argument, 0 where there is none or it is too long.
+fn argument(rt: &impl Env, i: usize) -> u64 {
     let mut text = [0u8; 16];
-    let length = os::arg(i, &mut text);
-    number(&text[..length])
+    match rt.arg(i, &mut text) {
+        Ok(length) => number(&text[..length]),
+        Err(_) => 0,
+    }
 }
 
-fn main() {
-    let measurement = argument(1);
-    let calls = argument(2);
+fn main(rt: HostRuntime) -> io::Result<()> {
+    let measurement = argument(&rt, 1);
+    let calls = argument(&rt, 2);
     if measurement < 9 {
-        print(measured(measurement, calls));
-        return;
+        return print(&rt, measured(measurement, calls));
     }
     for each in 0..9 {
-        print(measured(each, calls));
+        print(&rt, measured(each, calls))?;
     }
+    Ok(())
 }

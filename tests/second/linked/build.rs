@@ -12,7 +12,7 @@ fn main() {
     let archive = folder.join("libslatewhim.a");
     assert!(
         archive.is_file(),
-        "there is no {}: rt lib, in crates/slatewhim, makes it",
+        "there is no {}: ./library makes it",
         archive.display()
     );
     println!("cargo:rerun-if-changed={}", archive.display());

@@ -1,7 +1,7 @@
 -- A call on an image that its checks alone decide: refused, or made.
 -- Assumes nothing.
 use mathlib.Core.Path.{◌≡◌, refl, sym, ◌∙◌, ap, ap₂, subst}
-use mathlib.Core.Bool.{Bool, true, false, not, ◌&&◌}
+use mathlib.Core.Bool.{Bool, true, false, ◌&&◌}
 use mathlib.Core.List.{List}
 use Prim.Native.Nat.{ℕ}
 use lib.Dec.{eqb}
@@ -20,18 +20,9 @@ use Rattle.image.specs.Image.{book_in, is_image}
 use Rattle.image.specs.Changing.{no_book, number_of, Changes}
 use Rattle.image_sheets.specs.Stages.{Leaves}
 
--- a test asked the other way round
-pub fails : (t u : Bool) → t ≡ u → not t ≡ true → u ≡ false
-fails true u e h = never (cc)
-fails false u e h = sym e
-
-pub not_both : (t : Bool) → not t ≡ true → t ≡ true → ⊥
-not_both true h e = never (cc)
-not_both false h e = never (cc)
-
-pub holds : (t u : Bool) → t ≡ u → not t ≡ false → u ≡ true
-holds true u e h = sym e
-holds false u e h = never (cc)
+-- a test is not passed and failed
+pub not_both : (t : Bool) → t ≡ false → t ≡ true → ⊥
+not_both t h e = never (cc)
 
 module _ (c : Call) (l : List ℕ) where
   -- what is no image

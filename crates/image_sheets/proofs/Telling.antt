@@ -1,7 +1,7 @@
 -- What TRIAL tells of an image: a refusal, or the codes that fall, place by place.
 -- Assumes nothing.
 use mathlib.Core.Path.{◌≡◌, refl, sym, ◌∙◌, ap, ap₂, subst}
-use mathlib.Core.Bool.{cond}
+use mathlib.Core.Bool.{Bool, cond}
 use mathlib.Core.List.{List, map}
 use mathlib.Core.Logic.{◌≢◌}
 use mathlib.Core.Option.{Option, none, some}
@@ -36,6 +36,10 @@ pub fell_there : (l : List ℕ) (f : Benchmarks) (i at : ℕ) (p q : Place) → 
 fell_there l f i at p q h e g k =
     let was : p ≡ get_or (places_in l) i beyond = g ∙ ap (place_at l) e ∙ sym (place_there l i h) in
     ap₂ fell was (k ∙ ap (under f) was ∙ sym (at_map f (places_in l) (suc i)))
+
+-- the codes whose tariffs fall under a sheet with these figures
+abbrev pub falls_at : List ℕ → Benchmarks → ℕ → Bool
+falls_at l f = fell_from (places_in l) (map (under f) (places_in l))
 
 -- a number that is not 0 is told as a refusal
 told : (o : Option ℕ) (r : ℕ) (t : Telling) → r ≢ 0 → r ≡ number_if o → cond (eqb r 0) (falling 0) (refused r) ≡ told_unless o t

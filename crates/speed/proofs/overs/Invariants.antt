@@ -1,0 +1,15 @@
+-- `speed::overs` is safe and ends: each OPEN settles the place of the code, and with it stored the book is one that some list of calls leaves.
+-- Assumes nothing.
+use Rattle.std.proofs.Common.{◌-◌, ◌≤◌, sym, ◌∙◌, ⊎_elim, arith, rules}
+use Rattle.book.specs.Book.{Reachable}
+use Rattle.book.proofs.Places.{has_there}
+use Rattle.stands.proofs.Placed.{gone_reachable, stays_reachable}
+use Rattle.codes.specs.declared.CodeAct.TheVariants.{Open}
+use Rattle.codes.proofs.Places.{may_judge}
+use Rattle.speed.proofs.overs.Given as goal
+
+abbrev pub invariant-loop-i : goal.invariant-loop-i
+invariant-loop-i l = (l.i ≤ l.n) × Reachable l.b
+
+abbrev pub decreases-loop-i : goal.decreases-loop-i
+decreases-loop-i l = l.n - l.i

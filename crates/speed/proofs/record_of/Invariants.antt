@@ -1,0 +1,10 @@
+-- `speed::record_of` is safe and ends.
+-- Assumes nothing.
+use Rattle.std.proofs.Common.{◌-◌, ◌≤◌, rules}
+use Rattle.speed.proofs.record_of.Given as goal
+
+abbrev pub invariant-loop-i : goal.invariant-loop-i
+invariant-loop-i l = l.i ≤ 13
+
+abbrev pub decreases-loop-i : goal.decreases-loop-i
+decreases-loop-i l = 13 - l.i

@@ -1,8 +1,8 @@
 // The library for C programs: the functions of include/slatewhim.h, over an image of the book that the caller owns.
 // Promise: each export has the contract of the call that it hands on, and requires nothing: `FreshImage`, `Changes`, `Opens` and the records of what
 // is told, of any words; `slatewhim_check` answers 0 exactly where they are a book. `slatewhim_rebates` answers 100 for what is no book, and leaves the
-// list as it was; for a book the answer is that of `run_of` of crate rebates, and the list that of `after_run` (specs/Running.antt, `RunsOver`). It takes
-// a slice of structs, so it is proved by a walk of its code, by hand; what it calls is covered. Crate linked says what a list of these calls comes to.
+// list as it was; for a book the answer is that of `run_of` of crate rebates, and the list that of `after_run` (specs/Running.antt, `RunsOver`).
+// Crate linked says what a list of these calls comes to.
 #![tactic(auto)]
 
 ghost use Rattle.std.specs.Prelude.{◌≡◌};

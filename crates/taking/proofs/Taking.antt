@@ -12,7 +12,6 @@ use lib.Seq.{get_or-take, get_or-drop, take-take}
 use borrow.Author.Tests.{eqb-true, leb-true, ltb-true, ltb-false, lt-ltb, le-ltb}
 use Rattle.laws.proofs.Every.{and_left, and_right}
 use Rattle.laws.proofs.Never.{never}
-use Rattle.bytes.specs.Bytes.{index_of, index_after}
 use Rattle.book.specs.declared.Reply.{Reply}
 use Rattle.book.specs.declared.Place.{Place}
 use Rattle.book.specs.declared.Kept.{Kept}
@@ -22,7 +21,7 @@ use Rattle.book.specs.Book.{beyond, set_place, with_places, Reachable}
 use Rattle.texts.specs.Writing.{Puts}
 use Rattle.answers.specs.Answers.{answer_room}
 use Rattle.texts.proofs.Writing.{puts_behind, puts_none}
-use Rattle.lines.specs.Words.{between}
+use Rattle.lines.specs.Words.{index_of, index_after, between}
 use Rattle.naming.specs.declared.CodeStep.{CodeStep}
 use Rattle.naming.specs.declared.CodeStep.TheVariants.{Put, Open, Close, Drop, Ask, Confirm, Direct}
 use Rattle.naming.specs.declared.Word.TheVariants.{On}
@@ -38,7 +37,7 @@ use Rattle.taking.specs.Taking.{has_feed, Takes, none_taken, line_taken, has_roo
 
 -- the first byte b of a list, and those before it
 index_at : (b : ℕ) (xs : List ℕ) → index_of b xs < length xs → get_or xs (index_of b xs) 0 ≡ b
-unfolding index_of index_after
+unfolding index_of
 index_at b [] h = absurd (omega arith)
 index_at b (x ∷ xs) h = go (eqb x b) refl (index_at b xs) h
   where
@@ -49,7 +48,7 @@ index_at b (x ∷ xs) h = go (eqb x b) refl (index_at b xs) h
 
 -- a line feed is among bytes where the place of the first is inside them, and none stands before it
 has_feed_lem : (xs : List ℕ) → has_feed xs ≡ ltb (index_of 10 xs) (length xs)
-unfolding has_feed index_of index_after
+unfolding has_feed index_of
 has_feed_lem [] = refl
 has_feed_lem (x ∷ xs) = go (eqb x 10) (has_feed_lem xs)
   where
@@ -58,7 +57,7 @@ has_feed_lem (x ∷ xs) = go (eqb x 10) (has_feed_lem xs)
     go false later = later ∙ sym (leb-suc-suc (suc (index_of 10 xs)) (length xs))
 
 before_feed : (xs : List ℕ) → has_feed (take (index_of 10 xs) xs) ≡ false
-unfolding has_feed index_of index_after
+unfolding has_feed index_of
 before_feed [] = refl
 before_feed (x ∷ xs) = go (eqb x 10) refl (before_feed xs)
   where

@@ -9,7 +9,8 @@ use Rattle.benchmark.specs.declared.Benchmarks.{Benchmarks}
 use Rattle.tariff.specs.declared.Tariff.{Tariff}
 use Rattle.cap.specs.declared.CellNumbers.{CellNumbers}
 use Rattle.cap.specs.Cap.{excess, worst_months}
-use Rattle.cap.specs.Decided.{exceeds?, decided}
+use Rattle.cap.specs.Decided.{decided}
+use Rattle.cap.proofs.Decided.{exceeds?}
 use Rattle.verdict.specs.Cells.{Cell, offered, Offered, tariff_numbers, cell_at, exceeds_at, first_of, first_below, first_over, over, verdict_at, verdict}
 use Rattle.verdict.proofs.Meaning.{first_exceeds}
 

@@ -18,8 +18,10 @@ use Rattle.charge.specs.Most.{months_most}
 use Rattle.cap.specs.declared.CellNumbers.{CellNumbers}
 use Rattle.cap.specs.declared.Comparison.{Comparison}
 use Rattle.cap.specs.Cap.{charged, capped, excess, Exceeds, worst_month, worst_months}
-use Rattle.cap.specs.Decided.{exceeds?, decided}
-use Rattle.cap.specs.Deciding.{month_charged, month_capped, fixed_charged, fixed_capped, charged_monthly, capped_monthly, exceeds_if, only_if, worst_months_lem}
+use Rattle.cap.specs.Decided.{decided}
+use Rattle.cap.proofs.Decided.{exceeds?}
+use Rattle.cap.specs.Deciding.{month_charged, month_capped, fixed_charged, fixed_capped}
+use Rattle.cap.proofs.Deciding.{charged_monthly, capped_monthly, exceeds_if, only_if, worst_months_lem}
 use Rattle.cap.specs.Corners.{room, Compares, Carries}
 use Rattle.cap.proofs.Worst.{exceeds_at_worst}
 
@@ -35,6 +37,12 @@ yes_decided (no p) h = absurd (p h)
 pub no_decided : {P : Type 0} (d : Dec P) → (P → ⊥) → decided d ≡ false
 no_decided (yes p) h = absurd (h p)
 no_decided (no p) h = refl
+
+-- a test that holds exactly where P does is the decision of P
+pub is_decided : {P : Type 0} (d : Dec P) (t : Bool) → (t ≡ true → P) → (P → t ≡ true) → t ≡ decided d
+is_decided (yes p) t f g = g p
+is_decided (no p) true f g = absurd (p (f refl))
+is_decided (no p) false f g = refl
 
 module _ (e : CellNumbers) (x : Tariff) where
   -- the decision is the comparison at the worst months

@@ -1,3 +1,5 @@
+pub mod Deciding
+pub mod Decided
 pub mod Runs
 pub mod Worst
 pub mod Comparing

@@ -15,7 +15,8 @@ use Rattle.charge.specs.Charge.{month_most}
 use Rattle.charge.proofs.Registers.{month_without_split, charge_without_split}
 use Rattle.cap.specs.declared.CellNumbers.{CellNumbers}
 use Rattle.cap.specs.Cap.{maximum, charged, capped, excess, share, worst_month, worst_months}
-use Rattle.cap.specs.Decided.{exceeds?, decided}
+use Rattle.cap.specs.Decided.{decided}
+use Rattle.cap.proofs.Decided.{exceeds?}
 use Rattle.cap.proofs.Comparing.{decided_at_worst}
 
 -- the numbers of a cell with another peak share

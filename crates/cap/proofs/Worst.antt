@@ -13,7 +13,7 @@ use Rattle.tariff.specs.declared.Tariff.{Tariff}
 use Rattle.cap.specs.declared.CellNumbers.{CellNumbers}
 use Rattle.charge.specs.Charge.{month_most}
 use Rattle.cap.specs.Cap.{charged, capped, excess, Months, Exceeds, share, worst_month, worst_months}
-use Rattle.cap.specs.Deciding.{worst_best, worst_is, worst_most, exceeds_if, only_if}
+use Rattle.cap.proofs.Deciding.{worst_best, worst_is, worst_most, exceeds_if, only_if}
 
 module _ (e : CellNumbers) (x : Tariff) where
   -- for every list of t months, the excess is at most that of the worst months

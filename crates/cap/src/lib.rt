@@ -2,7 +2,7 @@
 // for any list of t months. Promise: `exceeds` says so exactly, though it looks at no more than five consumptions; `worst_case`
 // gives the months of answer 11 and their excess; `sides_of` gives QUOTE's two numbers, and `maximum_of` MAXIMUM's. Each kWh is
 // charged by `charge::charge_for` and allowed by `allowed_for`. What the layer above may use: `Exceeds`, `excess`, `worst_months` of
-// specs/Cap.antt, `exceeds?` of specs/Decided.antt, `Fits` and `Carries` of specs/Corners.antt, and the theorems in proofs/Worst.antt.
+// specs/Cap.antt, `exceeds?` of proofs/Decided.antt, `Fits` and `Carries` of specs/Corners.antt, and the theorems in proofs/Worst.antt.
 #![tactic(auto)]
 
 ghost use Rattle.std.specs.Prelude.{◌≡◌, true, ◌++◌, ℕ, ◌+◌, ◌-◌, ◌*◌, ◌≤◌, ◌<◌, length, get_or, drop, replicate};
@@ -15,7 +15,6 @@ ghost use Rattle.charge.specs.Charge.{month_most};
 ghost use Rattle.charge.specs.Most.{months_most, scaled_rate_most};
 ghost use Rattle.charge.specs.Tiers.{TiersFit};
 ghost use Rattle.cap.specs.Cap.{maximum, charged, capped, Months, Exceeds};
-ghost use Rattle.cap.specs.Decided.{exceeds?, decided};
 ghost use Rattle.cap.specs.Corners.{level_most, total_most, maximum_most, slope_most, room, month_charged_most, Fits, corners_of, Bounded, Priced, Raised, Cornered, Compares, Carries};
 
 use charge::{Kwh, Mills, Tiers};
@@ -248,7 +247,7 @@ fn compared(x: Tariff, k: Corners, e: CellNumbers) -> Comparison
 // Whether a tariff exceeds in a cell for any list of t months.
 pub fn exceeds(x: Tariff, k: Corners, e: CellNumbers) -> bool
     requires { (valid_tariff x ≡ true) × Cornered e.peak x e.m k × Fits e }
-    ensures { result ≡ decided (exceeds? e x) }
+    ensures { (result ≡ true → Exceeds e x) × (Exceeds e x → result ≡ true) }
 {
     let worst = compared(x, k, e);
     worst.capped < worst.charged

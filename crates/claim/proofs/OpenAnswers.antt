@@ -20,7 +20,7 @@ use Rattle.tariff.proofs.Validity.{valid_regions, valid_methods}
 use Rattle.desks.specs.Desks.{is_full, may_use}
 use Rattle.cap.specs.declared.CellNumbers.{CellNumbers}
 use Rattle.cap.specs.Cap.{charged, capped, excess, Months, Exceeds, worst_months}
-use Rattle.cap.specs.Deciding.{worst_months_lem, exceeds_if}
+use Rattle.cap.proofs.Deciding.{worst_months_lem, exceeds_if}
 use Rattle.cap.proofs.Worst.{excess_most, exceeds_at_worst, each_worst}
 use Rattle.verdict.specs.Cells.{Cell, Offered, cell_numbers, cell_count, verdict_at, verdict, first_over}
 use Rattle.verdict.proofs.Meaning.{none_exceeds, first_exceeds}

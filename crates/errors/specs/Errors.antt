@@ -15,8 +15,8 @@ error_start l = bytes_of "error line " ++ decimal l ++ bytes_of ": "
 abbrev pub too_long : ℕ → List ℕ
 too_long l = error_start l ++ bytes_of "longer than 16384 bytes\n"
 
-abbrev pub not_aNumber_text : ℕ → List ℕ
-not_aNumber_text k = bytes_of "word " ++ decimal k ++ bytes_of " is not a number from 0 to 4294967295\n"
+abbrev pub not_a_number_text : ℕ → List ℕ
+not_a_number_text k = bytes_of "word " ++ decimal k ++ bytes_of " is not a number from 0 to 4294967295\n"
 
 -- how many numbers a call takes, behind a text
 abbrev pub count_text : List ℕ → ℕ → List ℕ
@@ -33,7 +33,7 @@ problem_text l Nothing = []
 problem_text l (Asks desk w n) = []
 problem_text l NoCall = error_start l ++ bytes_of "desk takes a number and a call\n"
 problem_text l Unknown = error_start l ++ bytes_of "unknown call\n"
-problem_text l (NotANumber k) = error_start l ++ not_aNumber_text k
+problem_text l (NotANumber k) = error_start l ++ not_a_number_text k
 problem_text l (WrongCount w) = error_start l ++ (name_of w ++ arity_text (arity w))
 
 -- room enough for any error

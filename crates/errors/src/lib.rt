@@ -6,7 +6,7 @@
 ghost use Rattle.std.specs.Prelude.{◌++◌, ◌+◌, ◌≤◌, length};
 ghost use Rattle.texts.specs.Writing.{Puts};
 ghost use Rattle.naming.specs.Naming.{name_of, arity};
-ghost use Rattle.errors.specs.Errors.{error_room, error_start, too_long, not_aNumber_text, count_text, arity_text, problem_text};
+ghost use Rattle.errors.specs.Errors.{error_room, error_start, too_long, not_a_number_text, count_text, arity_text, problem_text};
 
 use naming::{Arity, Word};
 use request::Request;
@@ -40,7 +40,7 @@ pub fn put_too_long(out: &mut [u8], at: usize, l: u64) -> usize
 // word K is not a number from 0 to 4294967295
 fn put_not_a_number(out: &mut [u8], at: usize, k: usize) -> usize
     requires { at + 64 ≤ length out.old }
-    ensures { Puts out.old at (not_aNumber_text k) result out.new }
+    ensures { Puts out.old at (not_a_number_text k) result out.new }
 {
     texts::put_numbered(
         out,

@@ -10,7 +10,8 @@ use native.Mathlib.Omega.{arith}
 use Rattle.laws.proofs.Every.{and_left, and_right, and_both}
 use Rattle.benchmark.specs.declared.Benchmarks.{Benchmarks}
 use Rattle.tariff.specs.declared.Tariff.{Tariff}
-use Rattle.cap.specs.Decided.{exceeds?, decided}
+use Rattle.cap.specs.Decided.{decided}
+use Rattle.cap.proofs.Decided.{exceeds?}
 use Rattle.cap.proofs.Comparing.{decided_yes, yes_decided}
 use Rattle.verdict.specs.Cells.{Cell, cell, offered, Offered, tariff_numbers, ExceedsIn, Before, cell_at, exceeds_at, first_of, first_below, first_over}
 

@@ -20,7 +20,8 @@ use Rattle.charge.specs.Charge.{arrangement}
 use Rattle.cap.specs.declared.CellNumbers.{CellNumbers}
 use Rattle.cap.specs.declared.Corners.{Corners}
 use Rattle.cap.specs.declared.WorstCase.{WorstCase}
-use Rattle.cap.specs.Decided.{exceeds?, decided}
+use Rattle.cap.specs.Decided.{decided}
+use Rattle.cap.proofs.Decided.{exceeds?}
 use Rattle.cap.specs.Corners.{Fits, Cornered, Carries}
 use Rattle.verdict.specs.declared.Found.TheVariants as found
 use Rattle.verdict.specs.Cells.{Cell, offered, cell_numbers, tariff_numbers, exceeds_at, first_below, first_over, cell_count, opens, over, verdict_at, verdict, cell}

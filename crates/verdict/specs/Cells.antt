@@ -11,7 +11,8 @@ use Rattle.tariff.specs.Tariff.{standing_in}
 use Rattle.charge.specs.Charge.{arrangement}
 use Rattle.cap.specs.declared.CellNumbers.{CellNumbers}
 use Rattle.cap.specs.Cap.{excess, Exceeds, worst_months}
-use Rattle.cap.specs.Decided.{exceeds?, decided}
+use Rattle.cap.specs.Decided.{decided}
+use Rattle.cap.proofs.Decided.{exceeds?}
 
 -- a cell: "one of its offered regions with one of its offered methods"
 pub record Cell : Type 0 where

@@ -1,6 +1,8 @@
 -- `verdict::first_over` meets its contract. The invariant of each loop: no cell before the one at hand exceeds.
 -- Assumes nothing.
 use Rattle.std.proofs.Common.{arith, refl, sym, ◌∙◌}
+use Rattle.cap.proofs.Decided.{exceeds?}
+use Rattle.cap.proofs.Comparing.{is_decided}
 use Rattle.verdict.specs.Cells.{first_below}
 use Rattle.verdict.proofs.Walk.{cell_read, not_method, in_cell, passed, region_ends, region_passed, walked, over_cell}
 use Rattle.verdict.proofs.first_over.Goals as goal
@@ -28,7 +30,7 @@ loop-method-preserved c = (
             let read =
             cell_read c.args.b c.args.x c.requires.0 c.requires.1 _ _ _ (omega arith) c.loop-method-test.true c.arrangement_of-arrangement.ensures.0
             _ c.standing_in-standing.ensures.0 _ (w.cell_numbers-e.ensures c.args.b refl refl refl refl refl) _ _ c.wide.ensures c.corners_of-k.ensures in
-            in_cell c.args.b c.args.x _ _ c.loop-method-test.true (sym c.has.ensures ∙ c.if-has.true) (sym c.has-in-loop-method.ensures ∙ w.if-has-2.true) _ read.0 _ w.exceeds.ensures
+            in_cell c.args.b c.args.x _ _ c.loop-method-test.true (sym c.has.ensures ∙ c.if-has.true) (sym c.has-in-loop-method.ensures ∙ w.if-has-2.true) _ read.0 _ (is_decided (exceeds? _ _) _ w.exceeds.ensures.0 w.exceeds.ensures.1)
             ∙ w.if-exceeds.false)
         | else-has-2 w ↦ not_method c.args.b c.args.x c.walk.region c.loop-method.method c.loop-method-test.true (sym c.has-in-loop-method.ensures ∙ w.if-has-2.false)
       ]),
@@ -51,5 +53,5 @@ returns-then-exceeds c =
     let read =
     cell_read c.args.b c.args.x c.requires.0 c.requires.1 _ _ _ (omega arith) c.loop-method-test.true c.arrangement_of-arrangement.ensures.0
     _ c.standing_in-standing.ensures.0 _ (c.cell_numbers-e.ensures c.args.b refl refl refl refl refl) _ _ c.wide.ensures c.corners_of-k.ensures in
-    let decides = in_cell c.args.b c.args.x _ _ c.loop-method-test.true (sym c.has.ensures ∙ c.if-has.true) (sym c.has-in-loop-method.ensures ∙ c.if-has-2.true) _ read.0 _ c.exceeds.ensures in
+    let decides = in_cell c.args.b c.args.x _ _ c.loop-method-test.true (sym c.has.ensures ∙ c.if-has.true) (sym c.has-in-loop-method.ensures ∙ c.if-has-2.true) _ read.0 _ (is_decided (exceeds? _ _) _ c.exceeds.ensures.0 c.exceeds.ensures.1) in
     over_cell c.args.b c.args.x _ _ (omega arith) c.loop-method-test.true c.loop-method.invariant.1 (decides ∙ c.if-exceeds.true)

@@ -42,22 +42,20 @@ fn put_refused(out: &mut [u8], at: usize, n: u32) -> usize
     requires { at + short_room ≤ length out.old }
     ensures { Puts out.old at (line_of (bytes_of "refused") (n ∷ [])) result out.new }
 {
-    texts::put_line(out, at, b"refused", &[n as u64])
+    texts::put_line(out, at, b"refused", &[u64::from(n)])
 }
 
 // The numbers of refusal 11: 11, region, method, excess and 12 months.
 fn over_numbers(region: u32, method: u32, excess: u64, months: [u32; 12]) -> [u64; 16]
     ensures { result ≡ 11 ∷ region ∷ method ∷ excess ∷ months }
 {
-    let mut numbers: [u64; 16] = [0; 16];
+    let mut numbers = [0u64; 16];
     numbers[0] = 11;
-    numbers[1] = region as u64;
-    numbers[2] = method as u64;
+    numbers[1] = u64::from(region);
+    numbers[2] = u64::from(method);
     numbers[3] = excess;
-    let mut i: usize = 0;
-    while i < 12 {
-        numbers[4 + i] = months[i] as u64;
-        i += 1;
+    for i in 0..12 {
+        numbers[4 + i] = u64::from(months[i]);
     }
     numbers
 }
@@ -90,7 +88,7 @@ pub fn put_reply(out: &mut [u8], at: usize, reply: Reply, months: [u32; 12]) -> 
 {
     match reply {
         Reply::Accepted => texts::put_text(out, at, b"ok\n"),
-        Reply::Cells(cells) => put_ok(out, at, cells as u64),
+        Reply::Cells(cells) => put_ok(out, at, u64::from(cells)),
         Reply::Refused(n) => put_refused(out, at, n),
         Reply::Over(region, method, t, excess) => {
             put_over(out, at, region, method, t, excess, months)
@@ -111,6 +109,6 @@ pub fn put_told(out: &mut [u8], at: usize, told: Told) -> usize
             denominator,
         } => put_two(out, at, number, denominator),
         Told::Quote { charge, maximum } => put_two(out, at, charge, maximum),
-        Told::Falling(codes) => put_ok(out, at, codes as u64),
+        Told::Falling(codes) => put_ok(out, at, u64::from(codes)),
     }
 }

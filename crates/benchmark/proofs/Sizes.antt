@@ -7,8 +7,6 @@ use native.Mathlib.Nat.{mul-le-mul_right}
 use native.Mathlib.Omega.{arith}
 use lib.IntN.{ℤ, pos, ◌*ℤ◌}
 use lib.Signed.{mag, le_z}
-use mir.Syntax.{w64}
-use mir.Val.{SFits}
 use Rattle.laws.proofs.Every.{every_at}
 use Rattle.laws.proofs.Signed.{UpTo, up_to_sum, up_to, sum_mag}
 use Rattle.sheet.specs.Sheet.{field_count, smncc, oc_term, round, round_signed}
@@ -38,13 +36,10 @@ module _ (s : List ℕ) (h : Indexed s) where
   unfolding pc
   pc_up_to f l = (_, refl, pc_most s h f l)
 
-  -- OC, below zero or not, and that it fits 64 bits with its sign
+  -- OC, below zero or not
   oc_mag : (f : ℕ) → f < 4 → mag (oc s f) ≤ 200000000
   unfolding oc
   oc_mag f l = omega (arith, sum_mag (oc_term s f) (smncc s), oc_most s h f l, smncc_mag s h.ranged (omega arith))
-
-  pub oc_fits : (f : ℕ) → f < 4 → SFits w64 (oc s f)
-  oc_fits f l = record { sfits = omega (arith, oc_mag f l) }
 
   pub paenc_up_to : (p : ℕ) (z : ℤ) → p < 2 → UpTo z 500000000 → UpTo (paenc s p z) 600000000
   unfolding paenc

@@ -13,9 +13,11 @@ ghost use Rattle.benchmark.specs.Benchmark.{figure_index, wc, oc, paenc, headroo
 ghost use Rattle.benchmark.specs.Common.{costs_at, sum_from, commons};
 ghost use Rattle.benchmark.specs.Signs.{Costed};
 
+use std::array;
+
 // What a sheet and its period come to: the 112 charges by region, arrangement, method and level; m of each arrangement;
 // the peak share of Economy 7; t; and the days.
-#[derive(Clone, Copy)]
+#[derive(Debug, Clone, Copy, PartialEq, Eq)]
 pub struct Benchmarks {
     pub charges: [u32; 112],
     pub levels: [u32; 2],
@@ -25,14 +27,16 @@ pub struct Benchmarks {
 }
 
 // A part per million of a charge.
+#[tactic(auto, using(crate::proofs::Sizes::share_most))]
 pub fn ppm_of(p: u32, n: u64) -> u64
     requires { (p ≤ 1000000) × (n ≤ 10000000000) }
     ensures { (result ≡ round (p * n) 1000000) × (result ≤ n) }
 {
-    sheet::rounded((p as u64) * n, 1_000_000)
+    sheet::rounded(u64::from(p) * n, 1_000_000)
 }
 
 // WC at place f of the four.
+#[tactic(auto, using(sheet::proofs::Bounds::df_most, sheet::proofs::Bounds::cm_most), unfolding(crate::specs::Benchmark::wc))]
 fn wc_of(part: &[u32], f: usize) -> u64
     requires { Indexed part.now × (f < 4) }
     ensures { (pos result ≡ wc part.now f) × (result ≤ 200000000) }
@@ -41,6 +45,7 @@ fn wc_of(part: &[u32], f: usize) -> u64
 }
 
 // OC at place f of the four: SMNCC is the same at both levels, and can be a saving.
+#[tactic(auto, using(sheet::proofs::Bounds::oc_most, sheet::proofs::Bounds::smncc_mag), unfolding(crate::specs::Benchmark::oc))]
 fn oc_of(part: &[u32], f: usize) -> i64
     requires { Indexed part.now × (f < 4) }
     ensures { result ≡ oc part.now f }
@@ -53,14 +58,7 @@ pub fn ocs_fit(part: &[u32]) -> bool
     requires { Indexed part.now }
     ensures { result ≡ ocs_fit part.now }
 {
-    let mut f: usize = 0;
-    while f < 4 {
-        if oc_of(part, f) < 0 {
-            return false;
-        }
-        f += 1;
-    }
-    true
+    (0..4).all(|f| oc_of(part, f) >= 0)
 }
 
 // WC + PC + OC at place f of the four.
@@ -76,12 +74,7 @@ fn costs_of(part: &[u32]) -> [u64; 4]
     requires { Costed part.now }
     ensures { result ≡ tabulate 4 (λ f. nat_abs (costs_at part.now f)) }
 {
-    [
-        costs_at(part, 0),
-        costs_at(part, 1),
-        costs_at(part, 2),
-        costs_at(part, 3),
-    ]
+    array::from_fn(|f| costs_at(part, f))
 }
 
 // PAENC for a method, where WC + PC + OC is known.
@@ -101,6 +94,7 @@ fn headroom_of(part: &[u32], arrangement: usize, costs: u64) -> u64
 }
 
 // WC + PC + OC with PAENC and H of an arrangement and a method.
+#[tactic(auto, unfolding(crate::specs::Common::sum_from))]
 fn common_of(part: &[u32], arrangement: usize, method: usize, costs: u64) -> u64
     requires { Indexed part.now × (arrangement < 2) × (method < 2) × (costs ≤ 500000000) }
     ensures { pos result ≡ sum_from part.now arrangement method (pos costs) }
@@ -115,15 +109,11 @@ pub fn commons_of(part: &[u32]) -> [u64; 8]
     ensures { result ≡ commons part.now }
 {
     let costs = costs_of(part);
-    let mut sums = [0u64; 8];
-    let mut j: usize = 0;
-    while j < 8 {
+    array::from_fn(|j| {
         let arrangement = j / 4;
         let method = j / 2 % 2;
-        sums[j] = common_of(part, arrangement, method, costs[2 * arrangement + j % 2]);
-        j += 1;
-    }
-    sums
+        common_of(part, arrangement, method, costs[2 * arrangement + j % 2])
+    })
 }
 
 // The index of a figure among the 112.

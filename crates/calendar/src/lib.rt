@@ -7,7 +7,7 @@ ghost use Rattle.std.specs.Prelude.{◌≡◌, true, ◌≤◌};
 ghost use Rattle.calendar.specs.Calendar.{period_in_range, period_days};
 
 // A start year, a start month from 1 to 12, and t, the number of months.
-#[derive(Clone, Copy)]
+#[derive(Debug, Clone, Copy, PartialEq, Eq)]
 pub struct Period {
     pub year: u32,
     pub month: u32,
@@ -102,24 +102,20 @@ const BEGINS: [u32; 996] = [
 ];
 
 // Whether the year is 2018 to 2099, the month 1 to 12 and t 1 to 12: refusal 3, turned round.
+#[tactic(auto, using(std::proofs::lemmas::Bool::Decides::nat_tests), unfolding(crate::specs::Calendar::period_in_range))]
 pub fn in_range(p: Period) -> bool
     ensures { result ≡ period_in_range p }
 {
-    2018 <= p.year
-        && p.year <= 2099
-        && 1 <= p.month
-        && p.month <= 12
-        && 1 <= p.months
-        && p.months <= 12
+    (2018..=2099).contains(&p.year) && (1..=12).contains(&p.month) && (1..=12).contains(&p.months)
 }
 
 // The days of a period.
+#[tactic(auto, using(crate::proofs::Periods::within))]
 pub fn days(p: Period) -> u32
     requires { period_in_range p ≡ true }
     ensures { (result ≡ period_days p) × (result ≤ 372) }
 {
     let first = (12 * (p.year - 2018) + (p.month - 1)) as usize;
     let end = first + p.months as usize;
-    let begins = BEGINS;
-    begins[end] - begins[first]
+    BEGINS[end] - BEGINS[first]
 }

@@ -33,7 +33,7 @@ const ROOM: u64 = SCALE * BENCHMARK_MOST * MONTH_MOST;
 
 // The numbers of a cell: N and M, the benchmarks at nil and at m; m; t; the days; the standing charge that counts there; and the
 // peak share of Economy 7.
-#[derive(Clone, Copy)]
+#[derive(Debug, Clone, Copy, PartialEq, Eq)]
 pub struct CellNumbers {
     pub lower: u64,
     pub upper: u64,
@@ -45,7 +45,7 @@ pub struct CellNumbers {
 }
 
 // The charge and the maximum, each times the scale.
-#[derive(Clone, Copy)]
+#[derive(Debug, Clone, Copy, PartialEq, Eq)]
 pub struct Sides {
     pub charged: u64,
     pub capped: u64,
@@ -53,21 +53,21 @@ pub struct Sides {
 
 // The consumptions, beside 0, at which a month's share may be greatest: each step, and the end in every place that is left; and a
 // month's charge at each, times the scale.
-#[derive(Clone, Copy)]
+#[derive(Debug, Clone, Copy, PartialEq, Eq)]
 pub struct Corners {
     pub at: [u64; 4],
     pub charged: [u64; 4],
 }
 
 // A month, and its share raised by the most that the cap allows for a month's kWh, so that it is not below 0.
-#[derive(Clone, Copy)]
+#[derive(Debug, Clone, Copy, PartialEq, Eq)]
 pub struct Share {
     pub month: u64,
     pub raised: u64,
 }
 
 // The worst month, and both sides of the comparison for t of it, raised by as much.
-#[derive(Clone, Copy)]
+#[derive(Debug, Clone, Copy, PartialEq, Eq)]
 pub struct Comparison {
     pub month: u64,
     pub charged: u64,
@@ -75,16 +75,10 @@ pub struct Comparison {
 }
 
 // The months of answer 11, in the first t places, and their excess.
-#[derive(Clone, Copy)]
+#[derive(Debug, Clone, Copy, PartialEq, Eq)]
 pub struct WorstCase {
     pub months: [u32; 12],
     pub excess: u64,
-}
-
-fn wide(x: u32) -> u64
-    ensures { result ≡ x }
-{
-    x as u64
 }
 
 // The maximum helper: what each kWh adds, and the kWh.
@@ -109,13 +103,7 @@ fn total_of(months: &[u32]) -> u64
     requires { Months (length months.now) months.now × (length months.now ≤ months_most) }
     ensures { (result ≡ sum months.now) × (result ≤ total_most) }
 {
-    let mut sum: u64 = 0;
-    let mut i: usize = 0;
-    while i < months.len() {
-        sum += wide(months[i]);
-        i += 1;
-    }
-    sum
+    months.iter().map(|kwh| u64::from(*kwh)).sum()
 }
 
 // Both sides of the comparison for a lent list of months.
@@ -136,8 +124,11 @@ fn corner(t: Tiers, end: u64, i: usize) -> u64
     requires { TiersFit end t × (i < 4) }
     ensures { (result ≡ get_or (corners_of end t) i 0) × (result ≤ end) }
 {
-    let steps = t.steps;
-    if i + 1 < t.n { wide(steps[i]) } else { end }
+    if i + 1 < t.n {
+        u64::from(t.steps[i])
+    } else {
+        end
+    }
 }
 
 // A month's charge at a corner, times the scale, from the charge at the corner before it.
@@ -155,15 +146,14 @@ pub fn corners_of(x: Tariff, peak: u32, m: u64) -> Corners
     ensures { Cornered peak x m result }
 {
     let t = charge::tiers_of(x, peak);
-    let rates = t.rates;
     let a = corner(t, MONTH_MOST, 0);
     let b = corner(t, MONTH_MOST, 1);
     let c = corner(t, MONTH_MOST, 2);
     let d = corner(t, MONTH_MOST, 3);
-    let at_a = charged_up_to(0, m, rates[0], 0, a);
-    let at_b = charged_up_to(at_a, m, rates[1], a, b);
-    let at_c = charged_up_to(at_b, m, rates[2], b, c);
-    let at_d = charged_up_to(at_c, m, rates[3], c, d);
+    let at_a = charged_up_to(0, m, t.rates[0], 0, a);
+    let at_b = charged_up_to(at_a, m, t.rates[1], a, b);
+    let at_c = charged_up_to(at_b, m, t.rates[2], b, c);
+    let at_d = charged_up_to(at_c, m, t.rates[3], c, d);
     Corners {
         at: [a, b, c, d],
         charged: [at_a, at_b, at_c, at_d],
@@ -200,16 +190,14 @@ fn worst_corner(k: Corners, slope: u64) -> Share
     requires { Bounded k × (slope ≤ slope_most) }
     ensures { (u : ℕ → ℕ) → u 0 ≡ 0 → Priced k u → Raised u slope result × (result.month ≡ scan u (λ kwh. slope * kwh) 0 k.at) }
 {
-    let at = k.at;
-    let charged = k.charged;
     let none = Share {
         month: 0,
         raised: ROOM,
     };
-    let first = worse(none, at[0], charged[0], slope);
-    let second = worse_after(first, at[0], at[1], charged[1], slope);
-    let third = worse_after(second, at[1], at[2], charged[2], slope);
-    worse_after(third, at[2], at[3], charged[3], slope)
+    let first = worse(none, k.at[0], k.charged[0], slope);
+    let second = worse_after(first, k.at[0], k.at[1], k.charged[1], slope);
+    let third = worse_after(second, k.at[1], k.at[2], k.charged[2], slope);
+    worse_after(third, k.at[2], k.at[3], k.charged[3], slope)
 }
 
 // The charge of t months alike, times the scale, from a month's charge so scaled.
@@ -217,7 +205,7 @@ fn charged_by(e: CellNumbers, month: u64) -> u64
     requires { Fits e × (month ≤ month_charged_most + room) }
     ensures { result ≡ 12 * e.m * (whole_share * (e.standing * e.days)) + e.months * month }
 {
-    12 * e.m * (WHOLE * (wide(e.standing) * wide(e.days))) + e.months * month
+    12 * e.m * (WHOLE * (u64::from(e.standing) * u64::from(e.days))) + e.months * month
 }
 
 // The maximum of t months alike, times the scale, from what the cap allows for a month's kWh.
@@ -258,12 +246,8 @@ fn equal_months(month: u32, t: usize) -> [u32; 12]
     requires { t ≤ months_most }
     ensures { result ≡ replicate t month ++ drop t (replicate months_most 0) }
 {
-    let mut months = [0u32; 12];
-    let mut i: usize = 0;
-    while i < t {
-        months[i] = month;
-        i += 1;
-    }
+    let mut months = [0; 12];
+    months[..t].fill(month);
     months
 }
 

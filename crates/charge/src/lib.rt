@@ -16,24 +16,18 @@ use shares::{WHOLE, WHOLE_SHARE};
 use tariff::Tariff;
 
 // A charge is counted in mills and a consumption in kWh.
-#[derive(Clone, Copy)]
+#[derive(Debug, Clone, Copy, PartialEq, Eq)]
 pub struct Mills(pub u64);
 
-#[derive(Clone, Copy)]
+#[derive(Debug, Clone, Copy, PartialEq, Eq)]
 pub struct Kwh(pub u64);
 
 // What a tariff of any kind charges for a month's kWh: n rates times the whole of the shares, all but the last up to a step.
-#[derive(Clone, Copy)]
+#[derive(Debug, Clone, Copy, PartialEq, Eq)]
 pub struct Tiers {
     pub n: usize,
     pub rates: [u64; 4],
     pub steps: [u32; 4],
-}
-
-fn wide(x: u32) -> u64
-    ensures { result ≡ x }
-{
-    x as u64
 }
 
 // The charge helper: a rate for each kWh, and the kWh.
@@ -49,15 +43,11 @@ fn weighted_rate(rates: [u32; 4], shares: [u32; 4], n: usize) -> u64
     requires { (n ≤ 4) × (rates_within rates ≡ true) × (sum (take n shares) ≡ whole_share) }
     ensures { (result ≡ weighted (take n rates) (take n shares)) × (result ≤ scaled_rate_most) }
 {
-    let mut i: usize = 0;
-    let mut w: u64 = 0;
-    while i < n {
-        let rate = wide(rates[i]);
-        let share = wide(shares[i]);
-        w += rate * share;
-        i += 1;
-    }
-    w
+    rates[..n]
+        .iter()
+        .zip(&shares[..n])
+        .map(|(rate, share)| u64::from(*rate) * u64::from(*share))
+        .sum()
 }
 
 // The tiers of a single-register tariff, or the one tier of a weighted rate.
@@ -65,25 +55,20 @@ pub fn tiers_of(x: Tariff, peak: u32) -> Tiers
     requires { (valid_tariff x ≡ true) × (peak ≤ whole_share) }
     ensures { (result ≡ tiers_of peak x) × TiersFit month_most result }
 {
-    let rates = x.rates;
-    let steps = x.steps;
-    let kind = x.kind;
-    let n = x.n as usize;
-    match kind {
-        1 => Tiers {
-            n,
-            rates: [
-                WHOLE * wide(rates[0]),
-                WHOLE * wide(rates[1]),
-                WHOLE * wide(rates[2]),
-                WHOLE * wide(rates[3]),
-            ],
-            steps,
-        },
+    match x.kind {
+        1 => {
+            let rates = x.rates.map(|rate| WHOLE * u64::from(rate));
+            let steps = x.steps;
+            Tiers {
+                n: x.n as usize,
+                rates,
+                steps,
+            }
+        }
         2 => Tiers {
             n: 1,
             rates: [
-                weighted_rate(rates, [peak, WHOLE_SHARE - peak, 0, 0], 2),
+                weighted_rate(x.rates, [peak, WHOLE_SHARE - peak, 0, 0], 2),
                 0,
                 0,
                 0,
@@ -92,17 +77,10 @@ pub fn tiers_of(x: Tariff, peak: u32) -> Tiers
         },
         _ => Tiers {
             n: 1,
-            rates: [weighted_rate(rates, steps, n), 0, 0, 0],
+            rates: [weighted_rate(x.rates, x.steps, x.n as usize), 0, 0, 0],
             steps: [0; 4],
         },
     }
-}
-
-// The smaller of two numbers.
-fn least(x: u64, y: u64) -> u64
-    ensures { result ≡ min x y }
-{
-    if x < y { x } else { y }
 }
 
 // The charge at one rate for what lies above `from`, up to `top`.
@@ -110,11 +88,7 @@ fn part(rate: u64, top: u64, from: u64) -> Mills
     requires { (rate ≤ scaled_rate_most) × (top ≤ month_most) }
     ensures { result.0 ≡ rate * (top - from) }
 {
-    if from < top {
-        charge_for(Mills(rate), Kwh(top - from))
-    } else {
-        Mills(0)
-    }
+    charge_for(Mills(rate), Kwh(top.saturating_sub(from)))
 }
 
 // The charge for a month's kWh, times the whole of the shares.
@@ -122,28 +96,16 @@ pub fn tier_charge(t: Tiers, used: Kwh) -> Mills
     requires { TiersFit month_most t × (used.0 ≤ month_most) }
     ensures { (result.0 ≡ by_tiers t used.0) × (result.0 ≤ month_charge_most) }
 {
-    let rates = t.rates;
-    let steps = t.steps;
-    let n = t.n;
     let x = used.0;
-    let mut from: u64 = 0;
-    let mut sum: u64 = 0;
-    let mut i: usize = 0;
-    while i + 1 < n {
-        let step = wide(steps[i]);
-        sum += part(rates[i], least(x, step), from).0;
+    let last = t.n - 1;
+    let mut from = 0;
+    let mut sum = 0;
+    for i in 0..last {
+        let step = u64::from(t.steps[i]);
+        sum += part(t.rates[i], x.min(step), from).0;
         from = step;
-        i += 1;
     }
-    Mills(sum + part(rates[i], x, from).0)
-}
-
-// The kWh of a month of a list.
-fn kwh_at(months: &[u32], i: usize) -> Kwh
-    requires { i < length months.now }
-    ensures { result.0 ≡ get_or months.now i 0 }
-{
-    Kwh(wide(months[i]))
+    Mills(sum + part(t.rates[last], x, from).0)
 }
 
 // The charge of a tariff for a list of months, times the whole of the shares: with a standing charge for each day of the period,
@@ -153,12 +115,9 @@ pub fn charge_of(standing: u32, days: u32, peak: u32, x: Tariff, months: &[u32])
     ensures { (result.0 ≡ charge standing days peak x months.now) × (result.0 ≤ charge_most) }
 {
     let tiers = tiers_of(x, peak);
-    let count = months.len();
-    let mut sum: u64 = WHOLE * (wide(standing) * (days as u64));
-    let mut i: usize = 0;
-    while i < count {
-        sum += tier_charge(tiers, kwh_at(months, i)).0;
-        i += 1;
-    }
-    Mills(sum)
+    let sum: u64 = months
+        .iter()
+        .map(|kwh| tier_charge(tiers, Kwh(u64::from(*kwh))).0)
+        .sum();
+    Mills(WHOLE * (u64::from(standing) * u64::from(days)) + sum)
 }

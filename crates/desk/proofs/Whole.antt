@@ -14,6 +14,7 @@ use lib.ListN.{length, take, set, length-append, length-set}
 use lib.Seq.{take-set-le, get_or-set_same}
 use lib.Signed.{lt_z}
 use borrow.Author.Tests.{ltb-true, ltb-false, lt-ltb}
+use Rattle.std.proofs.lemmas.Bool.{or_parts}
 use Rattle.book.specs.declared.Book.{Book}
 use Rattle.book.specs.Book.{fresh}
 use Rattle.laws.proofs.Never.{never}
@@ -23,7 +24,7 @@ use Rattle.lines.proofs.Parts.{length_between}
 use Rattle.input.specs.declared.Input.{Input}
 use Rattle.input.specs.Input.{Holds, Keeps, is_left, AfterRead, stopped, after_write}
 use Rattle.input.proofs.Between.{between_split, between_one}
-use Rattle.input.proofs.Kept.{or_left, or_right, kept_short, stopped_holds}
+use Rattle.input.proofs.Kept.{kept_short, stopped_holds}
 use Rattle.taking.specs.declared.Desk.{Desk}
 use Rattle.taking.specs.Taking.{has_feed, Takes, none_taken, line_taken, Took}
 use Rattle.taking.proofs.Taking.{feed_append, feed_split, feed_last, takes_none}
@@ -182,8 +183,8 @@ module _ (i : Input) (before : List ℕ) (r : Input) (after : List ℕ) (k : Rea
       closed_whole : (t : Bool) → is_left i ≡ t → Complete i.cut (between (cond t (set k.into i.to 10) k.into) i.from (cond t (i.to + 1) i.to))
       closed_whole true e = inr (take i.to before, closed_adds true)
       closed_whole false e =
-          let z : i.to ≡ 0 = omega (arith, ltb-false 0 i.to (or_right i.cut (ltb 0 i.to) e)) in
-          inl (kept_bytes ∙ ap (λ n. take n before) z, or_left i.cut (ltb 0 i.to) e)
+          let z : i.to ≡ 0 = omega (arith, ltb-false 0 i.to (or_parts i.cut (ltb 0 i.to) e).1) in
+          inl (kept_bytes ∙ ap (λ n. take n before) z, (or_parts i.cut (ltb 0 i.to) e).0)
 
       go : (got : ℤ) → AfterRead got i k.into r after → Complete r.cut (between after r.from r.to)
       go (negsuc n) e = never (cc (ap (λ q. q.ended) e.0, x, y))

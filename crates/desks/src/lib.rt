@@ -19,31 +19,37 @@ fn is_full(desk: u32) -> bool
     desk == ALL_FOURTEEN
 }
 
+// 17, unless the test holds.
+fn refuse_unless(holds: bool) -> Check
+    ensures { result ≡ unless holds 17 Pass }
+{
+    if holds {
+        Check::Pass
+    } else {
+        Check::Refuse(17)
+    }
+}
+
 // 17, of what only a desk with all fourteen may do.
 pub fn full_check(desk: u32) -> Check
     ensures { result ≡ unless (is_full desk) 17 Pass }
 {
-    if is_full(desk) {
-        return Check::Pass;
-    }
-    Check::Refuse(17)
+    refuse_unless(is_full(desk))
 }
 
 // Whether the set is one of regions, and not empty.
 fn is_desk(desk: u32) -> bool
     ensures { result ≡ is_desk desk }
 {
-    1 <= desk && desk <= ALL_FOURTEEN
+    (1..=ALL_FOURTEEN).contains(&desk)
 }
 
 // Whether a region is the desk's.
+#[tactic(auto, using(std::proofs::lemmas::Bool::Decides::nat_tests), unfolding(crate::specs::Desks::in_desk))]
 fn in_desk(desk: u32, region: u32) -> bool
     ensures { result ≡ in_desk desk region }
 {
-    if region < 14 {
-        return is_desk(desk) && tariff::has(desk, region);
-    }
-    false
+    region < 14 && is_desk(desk) && tariff::has(desk, region)
 }
 
 // Whether a region is among a desk's, or not among a tariff's.
@@ -55,51 +61,30 @@ fn lets(desk: u32, regions: u32, region: u32) -> bool
 }
 
 // Whether every region of a tariff is the desk's.
+#[tactic(auto, unfolding(crate::specs::Desks::covers))]
 fn covers(desk: u32, regions: u32) -> bool
     ensures { result ≡ covers desk regions }
 {
-    if !is_desk(desk) {
-        return false;
-    }
-    let mut region: u32 = 0;
-    while region < 14 {
-        if !lets(desk, regions, region) {
-            return false;
-        }
-        region += 1;
-    }
-    true
+    is_desk(desk) && (0..14).all(|region| lets(desk, regions, region))
 }
 
 // Whether the desk may use a tariff offered in these regions.
 pub fn may_use(desk: u32, regions: u32) -> bool
     ensures { result ≡ may_use desk regions }
 {
-    if is_full(desk) {
-        return true;
-    }
-    covers(desk, regions)
+    is_full(desk) || covers(desk, regions)
 }
 
 // 17, of a tariff that is not offered in the desk's regions alone.
 pub fn use_check(desk: u32, regions: u32) -> Check
     ensures { result ≡ unless (may_use desk regions) 17 Pass }
 {
-    if may_use(desk, regions) {
-        return Check::Pass;
-    }
-    Check::Refuse(17)
+    refuse_unless(may_use(desk, regions))
 }
 
 // 17, of a region that is not the desk's.
 pub fn query_check(desk: u32, region: u32) -> Check
     ensures { result ≡ unless (may_query desk region) 17 Pass }
 {
-    if is_full(desk) {
-        return Check::Pass;
-    }
-    if in_desk(desk, region) {
-        return Check::Pass;
-    }
-    Check::Refuse(17)
+    refuse_unless(is_full(desk) || in_desk(desk, region))
 }

@@ -56,10 +56,8 @@ fn put_count(out: &mut [u8], at: usize, text: &[u8], n: usize) -> usize
     requires { at + length text.now + 29 ≤ length out.old }
     ensures { Puts out.old at (count_text text.now n) result out.new }
 {
-    if n == 1 {
-        return texts::put_numbered(out, at, text, n as u64, b" number\n");
-    }
-    texts::put_numbered(out, at, text, n as u64, b" numbers\n")
+    let behind: &[u8] = if n == 1 { b" number\n" } else { b" numbers\n" };
+    texts::put_numbered(out, at, text, n as u64, behind)
 }
 
 // takes N numbers, or none, or at least N, or N an account
@@ -68,12 +66,8 @@ fn put_arity(out: &mut [u8], at: usize, arity: Arity) -> usize
     ensures { Puts out.old at (arity_text arity) result out.new }
 {
     match arity {
-        Arity::Exactly(n) => {
-            if n == 0 {
-                return texts::put_text(out, at, b" takes no number\n");
-            }
-            put_count(out, at, b" takes ", n)
-        }
+        Arity::Exactly(0) => texts::put_text(out, at, b" takes no number\n"),
+        Arity::Exactly(n) => put_count(out, at, b" takes ", n),
         Arity::AtLeast(n) => put_count(out, at, b" takes at least ", n),
         Arity::Each(n) => texts::put_numbered(
             out,
@@ -91,11 +85,8 @@ fn put_wrong_count(out: &mut [u8], at: usize, word: Word) -> usize
     ensures { Puts out.old at (name_of word ++ arity_text (arity word)) result out.new }
 {
     let form = naming::form_of(word);
-    let name = form.name;
-    let size = form.size;
-    let arity = form.arity;
-    let behind_name = texts::put_text(out, at, &name[..size]);
-    put_arity(out, behind_name, arity)
+    let behind_name = texts::put_text(out, at, form.name);
+    put_arity(out, behind_name, form.arity)
 }
 
 // The answer to a line that is no call: nothing to a line that is passed over, and else its error.
@@ -104,8 +95,7 @@ pub fn put_problem(out: &mut [u8], at: usize, l: u64, request: Request) -> usize
     ensures { Puts out.old at (problem_text l request) result out.new }
 {
     match request {
-        Request::Nothing => at,
-        Request::Asks(_, _, _) => at,
+        Request::Nothing | Request::Asks(..) => at,
         Request::NoCall => put_error_text(out, at, l, b"desk takes a number and a call\n"),
         Request::Unknown => put_error_text(out, at, l, b"unknown call\n"),
         Request::NotANumber(k) => {

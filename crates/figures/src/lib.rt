@@ -32,7 +32,7 @@ fn charge_at(s: &[u32], sum: u64, region: usize, f: usize, method: usize) -> u64
     requires { Ranged field_count s.now × (sum ≤ 2200000000) × (region < 14) × (f < 4) × (method < 2) }
     ensures { (pos result ≡ pos sum +ℤ nc s.now region f +ℤ panc s.now method (nc s.now region f)) × (result ≤ 2400000000) }
 {
-    let network = sheet::wide(s[37 + 4 * region + f]);
+    let network = u64::from(s[37 + 4 * region + f]);
     sum + network + benchmark::ppm_of(s[18 + method], network)
 }
 
@@ -45,16 +45,15 @@ fn figure_at(s: &[u32], sum: u64, k: usize) -> u32
 }
 
 // The 112 figures: the eight sums, lent no field of a region, then NC and PANC of each region.
+#[tactic(auto, using(laws::proofs::Lists::is_table), unfolding(benchmark::specs::Benchmark::figures))]
 fn figures_of(s: &[u32]) -> [u32; 112]
     requires { Ranged field_count s.now × Costed (common_fields s.now) }
     ensures { result ≡ figures s.now }
 {
     let sums = benchmark::commons_of(&s[..37]);
     let mut charges = [0u32; 112];
-    let mut k: usize = 0;
-    while k < 112 {
+    for k in 0..112 {
         charges[k] = figure_at(s, sums[k % 8], k);
-        k += 1;
     }
     charges
 }
@@ -63,14 +62,7 @@ fn figures_of(s: &[u32]) -> [u32; 112]
 fn all_ordered(charges: [u32; 112]) -> bool
     ensures { result ≡ ordered charges }
 {
-    let mut j: usize = 0;
-    while j < 56 {
-        if charges[2 * j + 1] < charges[2 * j] {
-            return false;
-        }
-        j += 1;
-    }
-    true
+    (0..56).all(|j: usize| charges[2 * j] <= charges[2 * j + 1])
 }
 
 // Refusal n, unless the test holds.

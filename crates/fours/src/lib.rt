@@ -11,14 +11,7 @@ pub fn zero_from(a: [u32; 4], k: usize) -> bool
     requires { k ≤ 4 }
     ensures { result ≡ zero_from a k }
 {
-    let mut i: usize = k;
-    while i < 4 {
-        if a[i] != 0 {
-            return false;
-        }
-        i += 1;
-    }
-    true
+    a[k..].iter().all(|x| *x == 0)
 }
 
 // The first k numbers are from low to high.
@@ -26,17 +19,7 @@ pub fn all_within(a: [u32; 4], k: usize, low: u32, high: u32) -> bool
     requires { k ≤ 4 }
     ensures { result ≡ within a k low high }
 {
-    let mut i: usize = 0;
-    while i < k {
-        if a[i] < low {
-            return false;
-        }
-        if high < a[i] {
-            return false;
-        }
-        i += 1;
-    }
-    true
+    a[..k].iter().all(|x| (low..=high).contains(x))
 }
 
 // The first k numbers rise strictly.
@@ -44,33 +27,18 @@ pub fn all_rising(a: [u32; 4], k: usize) -> bool
     requires { k ≤ 4 }
     ensures { result ≡ rising a k }
 {
-    let mut i: usize = 0;
-    while i + 1 < k {
-        if a[i + 1] <= a[i] {
-            return false;
-        }
-        i += 1;
-    }
-    true
+    a[..k].windows(2).all(|w| w[0] < w[1])
 }
 
 // The sum of the first k numbers.
+#[tactic(auto, using(laws::proofs::Chains::is_sum, std::proofs::lemmas::List::take_all))]
 pub fn sum_of(a: [u32; 4], k: usize) -> u64
     requires { k ≤ 4 }
     ensures { result ≡ sum (take k a) }
 {
-    let mut sum: u64 = 0;
-    let mut i: usize = 0;
-    while i < k {
-        sum += wide(a[i]);
-        i += 1;
+    let mut sum = 0;
+    for x in &a[..k] {
+        sum += u64::from(*x);
     }
     sum
-}
-
-// A number of 32 bits as one of 64.
-pub fn wide(x: u32) -> u64
-    ensures { (result ≡ x) × (result ≤ 4294967295) }
-{
-    x as u64
 }

@@ -1,4 +1,5 @@
 pub mod Writing
+pub mod Each
 pub mod Reading
 pub mod Places
 pub mod Books

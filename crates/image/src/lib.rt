@@ -61,13 +61,11 @@ pub const RECORD_AT: usize = 2;
 pub const NO_BOOK: u32 = 100;
 
 // Whether words are an image: so many, the mark first.
+#[tactic(auto, unfolding(crate::specs::Image::is_image))]
 pub fn is_image(image: &[u32]) -> bool
     ensures { result ≡ is_image image.now }
 {
-    if image.len() != WORD_COUNT {
-        return false;
-    }
-    image[0] == MARK
+    image.len() == WORD_COUNT && image[0] == MARK
 }
 
 // A state as a word, and back.
@@ -85,16 +83,12 @@ pub fn state_number(s: State) -> u32
 pub fn state_of(n: u32) -> State
     ensures { result ≡ state_of n }
 {
-    if n == 1 {
-        return State::Draft;
+    match n {
+        1 => State::Draft,
+        2 => State::Marked,
+        3 => State::Open,
+        _ => State::Empty,
     }
-    if n == 2 {
-        return State::Marked;
-    }
-    if n == 3 {
-        return State::Open;
-    }
-    State::Empty
 }
 
 // The first word of the place at an index.
@@ -106,15 +100,14 @@ pub fn start_of(i: usize) -> usize
 }
 
 // The place whose words begin at a word.
+#[tactic(auto, using(crate::proofs::Reading::record_part), unfolding(crate::specs::Image::place_at))]
 pub fn place_at(image: &[u32], at: usize) -> Place
     requires { at + place_words ≤ length image.now }
     ensures { result ≡ place_at image.now at }
 {
     let state = state_of(image[at]);
     let directed = image[at + 1] == 1;
-    let from = at + RECORD_AT;
-    let to = at + PLACE_WORDS;
-    let x = tariff::tariff_of(&image[from..to]);
+    let x = tariff::tariff_of(&image[at + RECORD_AT..at + PLACE_WORDS]);
     book::place_with(state, directed, x)
 }
 
@@ -130,29 +123,26 @@ pub fn period_at(image: &[u32], at: usize) -> Period
     }
 }
 
-// The 112 charges.
-fn charges_in(image: &[u32]) -> [u32; 112]
-    requires { length image.now ≡ word_count }
-    ensures { result ≡ words 101 112 image.now }
+// N words, from a word on.
+#[tactic(auto, using(crate::proofs::Reading::part_is_words))]
+pub fn words_at<const N: usize>(image: &[u32], at: usize) -> [u32; N]
+    requires { at + N ≤ length image.now }
+    ensures { result ≡ words at N image.now }
 {
-    let mut charges = [0u32; 112];
-    let mut i: usize = 0;
-    while i < 112 {
-        charges[i] = image[CHARGES_AT + i];
-        i += 1;
-    }
-    charges
+    let mut words = [0; N];
+    words.copy_from_slice(&image[at..at + N]);
+    words
 }
 
 // The figures of the sheet in force.
+#[tactic(auto, unfolding(crate::specs::Image::figures_in))]
 pub fn figures_in(image: &[u32]) -> Benchmarks
     requires { length image.now ≡ word_count }
     ensures { result ≡ figures_in image.now }
 {
-    let charges = charges_in(image);
     Benchmarks {
-        charges,
-        levels: [image[LEVELS_AT], image[LEVELS_AT + 1]],
+        charges: words_at(image, CHARGES_AT),
+        levels: words_at(image, LEVELS_AT),
         peak: image[PEAK_AT],
         months: image[MONTHS_AT],
         days: image[DAYS_AT],
@@ -164,11 +154,7 @@ pub fn clear(image: &mut [u32], at: usize, n: usize)
     requires { at + n ≤ length image.old }
     ensures { Written image.old image.new at n (λ j. 0) }
 {
-    let mut i: usize = 0;
-    while i < n {
-        image[at + i] = 0;
-        i += 1;
-    }
+    image[at..at + n].fill(0);
 }
 
 // The numbers of a list, written from a word on.
@@ -176,11 +162,7 @@ pub fn write(image: &mut [u32], at: usize, x: &[u32])
     requires { at + length x.now ≤ length image.old }
     ensures { Written image.old image.new at (length x.now) (λ j. word x.now j) }
 {
-    let mut i: usize = 0;
-    while i < x.len() {
-        image[at + i] = x[i];
-        i += 1;
-    }
+    image[at..at + x.len()].copy_from_slice(x);
 }
 
 // n words, copied to others that stand behind them or before them.
@@ -188,11 +170,7 @@ pub fn copy(image: &mut [u32], from: usize, to: usize, n: usize)
     requires { (from + n ≤ length image.old) × (to + n ≤ length image.old) × ((from + n ≤ to) ⊎ (to + n ≤ from)) }
     ensures { Written image.old image.new to n (λ j. word image.old (from + j)) }
 {
-    let mut i: usize = 0;
-    while i < n {
-        image[to + i] = image[from + i];
-        i += 1;
-    }
+    image.copy_within(from..from + n, to);
 }
 
 // The number of an answer: 0, or that of the refusal.
@@ -200,9 +178,8 @@ pub fn number_of(reply: Reply) -> u32
     ensures { (months : List ℕ) → result ≡ number_of (answer_of reply months) }
 {
     match reply {
-        Reply::Accepted => 0,
-        Reply::Cells(_) => 0,
+        Reply::Accepted | Reply::Cells(_) => 0,
         Reply::Refused(n) => n,
-        Reply::Over(_, _, _, _) => 11,
+        Reply::Over(..) => 11,
     }
 }

@@ -1,30 +1,16 @@
 -- Words that are canonical, from what the code tests of them, and back.
 -- Assumes nothing.
-use mathlib.Core.Path.{◌≡◌, refl, sym, ◌∙◌}
-use mathlib.Core.Bool.{true, false, ◌&&◌}
+use mathlib.Core.Path.{◌≡◌, refl}
+use mathlib.Core.Bool.{true, ◌&&◌}
 use mathlib.Core.List.{List}
-use Prim.Native.Nat.{ℕ, ◌+◌, ◌≤◌, ◌<◌}
+use Prim.Native.Nat.{ℕ, ◌+◌, ◌≤◌}
 use lib.Dec.{leb}
-use borrow.Author.Tests.{leb-true, le-leb, lt-leb}
+use borrow.Author.Tests.{leb-true, le-leb}
 use Rattle.laws.specs.Notions.{every}
 use Rattle.laws.proofs.Every.{and_left, and_right, every_at, every_all}
 use Rattle.image.specs.Layout.{loaded_at, kept_at, kept_loaded_at, kept_states_at, start_of}
 use Rattle.image.specs.Image.{word, Canonical}
 use Rattle.image_book.specs.Testing.{canonical_at}
-
--- one place: refused by its state or its direction, or else by the state that it had
-module _ (l : List ℕ) (i at : ℕ) (e : at ≡ start_of i) where
-  pub other_state : 3 < word l at → false ≡ canonical_at l i
-  unfolding canonical_at
-  other_state h = rw (sym e, lt-leb (word l at) 3 h) refl
-
-  pub other_direction : word l at ≤ 3 → 1 < word l (at + 1) → false ≡ canonical_at l i
-  unfolding canonical_at
-  other_direction g h = rw (sym e, le-leb (word l at) 3 g, lt-leb (word l (at + 1)) 1 h) refl
-
-  pub else_kept : word l at ≤ 3 → word l (at + 1) ≤ 1 → leb (word l (kept_states_at + i)) 3 ≡ canonical_at l i
-  unfolding canonical_at
-  else_kept g h = rw (sym e, le-leb (word l at) 3 g, le-leb (word l (at + 1)) 1 h) refl
 
 -- what the test says of a place
 pub said : (l : List ℕ) (i : ℕ) → canonical_at l i ≡ true → (word l (start_of i) ≤ 3) × (word l (start_of i + 1) ≤ 1) × (word l (kept_states_at + i) ≤ 3)
@@ -49,5 +35,6 @@ canonical l a b c e =
     }
 
 pub tested : (l : List ℕ) → Canonical l → every 32 (canonical_at l) ≡ true
+unfolding canonical_at
 tested l q =
-    every_all (canonical_at l) 32 (λ i h. sym (else_kept l i (start_of i) refl (q.states i h) (q.directions i h)) ∙ le-leb (word l (kept_states_at + i)) 3 (q.kept_states i h))
+    every_all (canonical_at l) 32 (λ i h. rw (le-leb (word l (start_of i)) 3 (q.states i h), le-leb (word l (start_of i + 1)) 1 (q.directions i h), le-leb (word l (kept_states_at + i)) 3 (q.kept_states i h)) refl)

@@ -5,8 +5,7 @@ use mathlib.Core.List.{List, [], ◌∷◌, map}
 use mathlib.Core.Logic.{inl, inr}
 use Prim.Native.Nat.{ℕ, ◌+◌, ◌≤◌, ◌<◌}
 use native.Mathlib.Omega.{arith}
-use lib.ListN.{length, set, replicate, length-set, length-replicate}
-use lib.Seq.{get_or-set_same, get_or-set_other}
+use lib.ListN.{length, replicate, length-replicate}
 use Rattle.laws.proofs.Lists.{noughts}
 use Rattle.sheet.specs.Sheet.{field_count}
 use Rattle.benchmark.specs.declared.Benchmarks.{Benchmarks}
@@ -21,18 +20,6 @@ use Rattle.image_sheets.specs.Stages.{sheet_words, FiguresWritten, SheetWritten,
 pub words_copied : (to from n : ℕ) (l m : List ℕ) → ((j : ℕ) → j < n → word m (to + j) ≡ word l (from + j)) → words to n m ≡ words from n l
 words_copied to from n l m h =
     are_words to n m (words from n l) (length_words from n l) (λ j k. h j k ∙ sym (word_at from n l j k))
-
--- one word
-pub written_one : (l : List ℕ) (at v : ℕ) → at < length l → Written l (set l at v) at 1 (λ j. v)
-written_one l at v h =
-    record {
-      size = length-set l at v;
-      outside = λ j o. elim o [
-        | inl k ↦ get_or-set_other l at j v 0 (λ q. omega arith)
-        | inr k ↦ get_or-set_other l at j v 0 (λ q. omega arith)
-      ];
-      inside = λ j k. (let e : at + j ≡ at = omega arith in ap (word (set l at v)) e ∙ get_or-set_same l at v 0 h);
-    }
 
 pub figures_alike : (l m : List ℕ) → ((j : ℕ) → charges_at ≤ j → j < kept_at → word m j ≡ word l j) → figures_in m ≡ figures_in l
 unfolding figures_in

@@ -18,9 +18,6 @@ use Rattle.image.proofs.Reading.{words_alike, length_words, word_at}
 use Rattle.image.proofs.Places.{length_places, place_there, place_alike}
 use Rattle.image_sheets.specs.Stages.{StatesWritten}
 
-pub states_none : (l : List ℕ) (x : ℕ → ℕ) → StatesWritten l l 0 x
-states_none l x = record { size = refl; outside = λ j o. refl; inside = λ i h. absurd (omega arith) }
-
 pub states_more : (l m : List ℕ) (i at v : ℕ) (x : ℕ → ℕ) → StatesWritten l m i x → at ≡ start_of i → at < length l → v ≡ x i
     → StatesWritten l (set m at v) (i + 1) x
 states_more l m i at v x w e h q =

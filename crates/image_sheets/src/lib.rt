@@ -46,15 +46,7 @@ fn all_valid(image: &[u32]) -> bool
     requires { length image.now ≡ word_count }
     ensures { (result ≡ true → AllValid image.now) × (AllValid image.now → result ≡ true) }
 {
-    let mut tested: usize = 0;
-    while tested < 32 {
-        let at = image::start_of(tested);
-        if !image_tests::holds_valid(image, at) {
-            return false;
-        }
-        tested += 1;
-    }
-    true
+    (0..32).all(|i| image_tests::holds_valid(image, image::start_of(i)))
 }
 
 // The number of SET's and TRIAL's answer, or 0, given that of the sheet's own checks. What is no image; 17; 1 to 4, 14, 5; what is no book,
@@ -109,11 +101,8 @@ fn keep_states(image: &mut [u32])
     requires { length image.old ≡ word_count }
     ensures { Written image.old image.new kept_states_at 32 (λ i. word image.old (start_of i)) }
 {
-    let mut kept: usize = 0;
-    while kept < 32 {
-        let at = image::start_of(kept);
-        image[KEPT_STATES_AT + kept] = image[at];
-        kept += 1;
+    for i in 0..32 {
+        image[KEPT_STATES_AT + i] = image[image::start_of(i)];
     }
 }
 
@@ -132,14 +121,10 @@ fn judge_places(image: &mut [u32], figures: Benchmarks)
     requires { (length image.old ≡ word_count) × Lawful figures × AllValid image.old }
     ensures { StatesWritten image.old image.new 32 (λ i. state_number (under figures (place_at image.old (start_of i))).state) }
 {
-    let mut done: usize = 0;
-    while done < 32 {
-        let at = image::start_of(done);
-        let p = image::place_at(image, at);
-        let next = setting::judged(p, figures);
-        let state = next.state;
-        image[at] = image::state_number(state);
-        done += 1;
+    for i in 0..32 {
+        let at = image::start_of(i);
+        let next = setting::judged(image::place_at(image, at), figures);
+        image[at] = image::state_number(next.state);
     }
 }
 
@@ -173,11 +158,8 @@ fn states_back(image: &mut [u32])
     requires { length image.old ≡ word_count }
     ensures { StatesWritten image.old image.new 32 (λ i. word image.old (kept_states_at + i)) }
 {
-    let mut back: usize = 0;
-    while back < 32 {
-        let at = image::start_of(back);
-        image[at] = image[KEPT_STATES_AT + back];
-        back += 1;
+    for i in 0..32 {
+        image[image::start_of(i)] = image[KEPT_STATES_AT + i];
     }
 }
 
@@ -229,14 +211,11 @@ fn fallen(image: &[u32], figures: Benchmarks) -> u32
 {
     let mut codes: u64 = 0;
     let mut bit: u64 = 1;
-    let mut i: usize = 0;
-    while i < 32 {
-        let at = image::start_of(i);
-        let p = image::place_at(image, at);
+    for i in 0..32 {
+        let p = image::place_at(image, image::start_of(i));
         let q = setting::judged(p, figures);
         codes += trial::bit_if_fell(p, q, bit);
         bit *= 2;
-        i += 1;
     }
     codes as u32
 }

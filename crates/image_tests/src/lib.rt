@@ -9,7 +9,7 @@ ghost use Rattle.benchmark.specs.Lawful.{Lawful};
 ghost use Rattle.stands.specs.Stands.{HoldsValid};
 ghost use Rattle.image.specs.Layout.{word_count, place_words};
 ghost use Rattle.image.specs.Image.{place_at, figures_in};
-ghost use Rattle.image_tests.specs.Tests.{between, pair_fits, levels_fit, rest_fits, passes, valid_as};
+ghost use Rattle.image_tests.specs.Tests.{pair_fits, levels_fit, rest_fits, passes, valid_as};
 
 use benchmark::Benchmarks;
 use book::State;
@@ -20,47 +20,34 @@ use shares::WHOLE_SHARE;
 // The most of a charge.
 pub const CHARGE_MOST: u32 = 2_400_000_000;
 
-fn is_between(low: u32, high: u32, x: u32) -> bool
-    ensures { result ≡ between low high x }
-{
-    low <= x && x <= high
-}
-
 // Whether each of the 56 pairs of charges, at nil consumption and at m, is in order and in range.
 fn pairs_fit(charges: [u32; 112]) -> bool
     ensures { result ≡ every 56 (pair_fits charges) }
 {
-    let mut j: usize = 0;
-    while j < 56 {
-        if !is_between(charges[2 * j], CHARGE_MOST, charges[2 * j + 1]) {
-            return false;
-        }
-        j += 1;
-    }
-    true
+    let (pairs, _) = charges.as_chunks::<2>();
+    pairs.iter().all(|&[nil, m]| nil <= m && m <= CHARGE_MOST)
 }
 
 // Whether m of each arrangement is in range.
 fn levels_fit(levels: [u32; 2]) -> bool
     ensures { result ≡ levels_fit levels }
 {
-    is_between(1, 20_000, levels[0]) && is_between(1, 20_000, levels[1])
+    levels.iter().all(|m| (1..=20_000).contains(m))
 }
 
 // Whether the peak share, t and the days are.
 fn rest_fits(peak: u32, months: u32, days: u32) -> bool
     ensures { result ≡ rest_fits peak months days }
 {
-    peak <= WHOLE_SHARE && is_between(1, 12, months) && days <= 372
+    peak <= WHOLE_SHARE && (1..=12).contains(&months) && days <= 372
 }
 
 // Whether figures are such as the cap's arithmetic needs.
+#[tactic(auto, using(crate::proofs::Lawfulness::told_lawful), unfolding(crate::specs::Tests::lawful_test))]
 pub fn is_lawful(f: Benchmarks) -> bool
     ensures { (result ≡ true → Lawful f) × (Lawful f → result ≡ true) }
 {
-    let charges = f.charges;
-    let levels = f.levels;
-    pairs_fit(charges) && levels_fit(levels) && rest_fits(f.peak, f.months, f.days)
+    pairs_fit(f.charges) && levels_fit(f.levels) && rest_fits(f.peak, f.months, f.days)
 }
 
 // Whether those of an image are.

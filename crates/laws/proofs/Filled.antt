@@ -1,26 +1,11 @@
--- Laws of a list that a loop fills from the front, one store a turn, by its index.
+-- Laws of a list that is filled from one other or from two, by its index.
 -- Assumes nothing.
 use mathlib.Core.Path.{◌≡◌, refl, sym, ◌∙◌, ap}
 use mathlib.Core.List.{List, [], ◌∷◌, map, zip_with}
-use Prim.Native.Nat.{ℕ, zero, suc, ◌+◌, ◌<◌, ◌≤◌}
-use native.Mathlib.Decide.{dec_le}
+use Prim.Native.Nat.{ℕ, zero, suc, ◌<◌}
 use native.Mathlib.Omega.{arith}
-use lib.ListN.{length, get_or, set, length-map, get_or-map}
-use lib.Seq.{get_or-set_same, get_or-set_other, ext_get_or}
-
-module _ {A : Type 0} (d : A) (xs : List A) (i : ℕ) (v : A) where
-  -- what is stored is f up to the place after
-  pub filled_more : (f : ℕ → A) → i < length xs → ((j : ℕ) → j < i → get_or xs j d ≡ f j) → v ≡ f i
-      → (j : ℕ) → j < i + 1 → get_or (set xs i v) j d ≡ f j
-  filled_more f l h e j k =
-      elim (dec_le i j) [
-        | yes m ↦ (let q : j ≡ i = omega arith in rw q (get_or-set_same xs i v d l ∙ e))
-        | no m ↦ get_or-set_other xs i j v d (λ q. m (omega arith)) ∙ h j (omega arith)
-      ]
-
-  -- and what is not yet stored stays
-  pub left_more : (g : ℕ → A) → ((j : ℕ) → i ≤ j → get_or xs j d ≡ g j) → (j : ℕ) → i + 1 ≤ j → get_or (set xs i v) j d ≡ g j
-  left_more g h j k = get_or-set_other xs i j v d (λ q. omega arith) ∙ h j (omega arith)
+use lib.ListN.{length, get_or, length-map, get_or-map}
+use lib.Seq.{ext_get_or}
 
 -- a list that has f of each entry of another is that list mapped
 pub map_filled : {A B : Type 0} (f : A → B) (d : A) (xs : List A) (qs : List B) → length qs ≡ length xs

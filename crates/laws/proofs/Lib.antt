@@ -12,3 +12,4 @@ pub mod Never
 pub mod Signed
 pub mod Pieces
 pub mod Sets
+pub mod Chains

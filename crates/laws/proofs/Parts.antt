@@ -2,10 +2,10 @@
 -- Assumes nothing.
 use mathlib.Core.Path.{◌≡◌, refl, ap}
 use mathlib.Core.List.{List, [], ◌∷◌, map}
-use Prim.Native.Nat.{ℕ, zero, suc, ◌+◌, ◌<◌, ◌≤◌}
+use Prim.Native.Nat.{ℕ, zero, suc, ◌+◌, ◌<◌}
 use native.Mathlib.Numerals.{add-one}
 use native.Mathlib.Omega.{arith}
-use lib.ListN.{length, get_or, take, drop, drop_of_length-le}
+use lib.ListN.{length, get_or, take, drop}
 use lib.Seq.{drop-cons}
 use Rattle.laws.specs.Notions.{sum, total}
 
@@ -30,20 +30,7 @@ unfolding total
 total_alike f g h [] = refl
 total_alike f g h (x ∷ xs) = omega (arith, h x, total_alike f g h xs)
 
--- a loop over a list: the sum over the rest of it, with one number more or none
-pub total_next : (f : ℕ → ℕ) (xs : List ℕ) (i : ℕ) → i < length xs → total f (drop i xs) ≡ f (get_or xs i 0) + total f (drop (i + 1) xs)
-unfolding total
-total_next f xs i h = rw (add-one, drop-cons xs i 0 h) refl
-
-pub total_end : (f : ℕ → ℕ) (xs : List ℕ) (i : ℕ) → length xs ≤ i → total f (drop i xs) ≡ 0
-unfolding total
-total_end f xs i h = rw (drop_of_length-le xs {i = i} h) refl
-
--- the same of the plain sum
+-- a loop over a list: the sum over the rest of it, with one number more
 pub sum_next : (xs : List ℕ) (i : ℕ) → i < length xs → sum (drop i xs) ≡ get_or xs i 0 + sum (drop (i + 1) xs)
 unfolding sum
 sum_next xs i h = rw (add-one, drop-cons xs i 0 h) refl
-
-pub sum_end : (xs : List ℕ) (i : ℕ) → length xs ≤ i → sum (drop i xs) ≡ 0
-unfolding sum
-sum_end xs i h = rw (drop_of_length-le xs {i = i} h) refl

@@ -2,12 +2,11 @@
 -- Assumes nothing.
 use mathlib.Core.Path.{◌≡◌, refl, sym, ◌∙◌, ap}
 use mathlib.Core.Bool.{Bool, true, false}
-use Prim.Native.Nat.{ℕ, suc, ◌+◌, ◌<◌, ◌≤◌}
+use Prim.Native.Nat.{ℕ, suc, ◌+◌, ◌≤◌}
 use native.Mathlib.Omega.{arith}
 use lib.Dec.{ltb, le→leb}
 use lib.IntN.{ℤ, pos, negsuc, nat_abs, ◌+ℤ◌, +ℤ_assoc, +ℤ_comm}
-use lib.Signed.{mag, le_z, lt_z, ◌≤ℤ◌}
-use borrow.Author.Tests.{ltb-true, le-leb}
+use lib.Signed.{mag, le_z, ◌≤ℤ◌}
 use Rattle.laws.proofs.Never.{never}
 
 -- a number from 0 to most
@@ -43,12 +42,3 @@ sum_mag t (negsuc k) = go (ltb t (suc k)) refl
     go : (b : Bool) → ltb t (suc k) ≡ b → mag (pos t +ℤ negsuc k) ≤ t + k
     go true e = rw e (omega arith)
     go false e = rw e (omega arith)
-
--- below zero, or not
-pub below_zero : (z : ℤ) → lt_z z (pos 0) ≡ true → le_z (pos 0) z ≡ false
-below_zero (pos n) e = let no : n < 0 = ltb-true n 0 e in absurd (omega arith)
-below_zero (negsuc n) e = refl
-
-pub not_below_zero : (z : ℤ) → lt_z z (pos 0) ≡ false → le_z (pos 0) z ≡ true
-not_below_zero (pos n) e = le-leb 0 n (omega arith)
-not_below_zero (negsuc n) e = never (cc)

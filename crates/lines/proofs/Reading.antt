@@ -11,10 +11,8 @@ use lib.Dec.{leb}
 use lib.ListN.{length, get_or, take, drop, set, length-drop, drop_of_length-le}
 use lib.Seq.{drop-drop, take-suc-set, append_snoc}
 use borrow.Author.Tests.{le-leb, lt-leb}
-use Rattle.lines.specs.declared.Number.{Number}
-use Rattle.lines.specs.declared.Number.TheVariants.{Value, Not}
-use Rattle.lines.specs.declared.Numbers.{Numbers}
-use Rattle.lines.specs.declared.Numbers.TheVariants.{All, Bad}
+use Rattle.std.specs.Prelude.{Option, Some, None, Result, Ok, Err}
+use Rattle.lines.specs.declared.NotANumber.{NotANumber}
 use Rattle.lines.specs.Words.{index_of, parts, not_empty, words, word_in, spaces}
 use Rattle.lines.specs.Numerals.{digit, digits, value_after, value, numeral, number_at, behind, numbers_in}
 use Rattle.lines.proofs.Splitting.{index_within, word_more, word_length, first_word, words_spaces, spaces_none}
@@ -46,15 +44,6 @@ too_large (b ∷ bs) h = go (digits (b ∷ bs))
     go true = lt-leb (value (b ∷ bs)) 4294967295 h
     go false = refl
 
-digit_is : (b : ℕ) → 48 ≤ b → b ≤ 57 → digit b ≡ true
-digit_is b h k = rw (le-leb 48 b h, le-leb b 57 k)
-
-below_digits : (b : ℕ) → b < 48 → digit b ≡ false
-below_digits b h = rw (lt-leb 48 b h)
-
-above_digits : (b : ℕ) → 57 < b → digit b ≡ false
-above_digits b h = rw (le-leb 48 b (omega arith), lt-leb b 57 h)
-
 -- what is known of the word at `from` when the bytes from there to i are read: they are digits, of value v, and the rest of the word is at i
 pub record Scanned (line : List ℕ) (from v i : ℕ) : Type 0 where
   pub reached : from ≤ i
@@ -70,56 +59,51 @@ scan_starts line from h = record { reached = omega arith; within = h; small = om
 
 -- the number at a place, by its word
 number_is : (line : List ℕ) (from v e : ℕ) → numeral (word_in (drop from line)) ≡ true → v ≡ value (word_in (drop from line))
-    → e ≡ from + length (word_in (drop from line)) → Value v e ≡ number_at line from
+    → e ≡ from + length (word_in (drop from line)) → Some (v, e) ≡ number_at line from
 unfolding number_at
 number_is line from v e h p q = rw (h, p, q)
 
-number_not : (line : List ℕ) (from : ℕ) → numeral (word_in (drop from line)) ≡ false → Not ≡ number_at line from
+number_not : (line : List ℕ) (from : ℕ) → numeral (word_in (drop from line)) ≡ false → None ≡ number_at line from
 unfolding number_at
 number_not line from h = rw h
 
--- a word that is left, at a byte that is no digit or at a value that is too large
-module _ (line : List ℕ) (from v i : ℕ) (s : Scanned line from v i) (h : i < length line) (e : get_or line i 0 ≡ 32 → ⊥) where
-  left_at : digit (get_or line i 0) ≡ false → Not ≡ number_at line from
+-- the byte at i, which is no space
+module _ (line : List ℕ) (from v i : ℕ) (s : Scanned line from v i) (h : i < length line) (b : ℕ) (q : b ≡ get_or line i 0) (e : b ≡ 32 → ⊥) where
+  more : word_in (drop i line) ≡ b ∷ word_in (drop (i + 1) line)
+  more = word_more line i h (λ k. e (q ∙ k)) ∙ ap (λ x. x ∷ word_in (drop (i + 1) line)) (sym q)
+
+  -- a word that is left, where it is no digit or the value is too large
+  pub left_at : digit b ≡ false → None ≡ number_at line from
   unfolding digits
-  left_at d =
-      number_not line from
-      (not_digits (word_in (drop from line)) (s.all ∙ ap digits (word_more line i h e) ∙ rw d))
+  left_at d = number_not line from (not_digits (word_in (drop from line)) (s.all ∙ ap digits more ∙ rw d))
 
-  pub left_below : get_or line i 0 < 48 → Not ≡ number_at line from
-  left_below k = left_at (below_digits (get_or line i 0) k)
-
-  pub left_above : 57 < get_or line i 0 → Not ≡ number_at line from
-  left_above k = left_at (above_digits (get_or line i 0) k)
-
-  worth_next : value (word_in (drop from line)) ≡ value_after (10 * v + (get_or line i 0 - 48)) (word_in (drop (i + 1) line))
+  worth_next : value (word_in (drop from line)) ≡ value_after (10 * v + (b - 48)) (word_in (drop (i + 1) line))
   unfolding value_after
-  worth_next = s.worth ∙ ap (value_after v) (word_more line i h e)
+  worth_next = s.worth ∙ ap (value_after v) more
 
-  pub left_large : 4294967295 < 10 * v + (get_or line i 0 - 48) → Not ≡ number_at line from
+  pub left_large : 4294967295 < 10 * v + (b - 48) → None ≡ number_at line from
   left_large k =
-      number_not line from
-      (too_large (word_in (drop from line)) (omega (arith, worth_next, grows (10 * v + (get_or line i 0 - 48)) (word_in (drop (i + 1) line)))))
+      number_not line from (too_large (word_in (drop from line)) (omega (arith, worth_next, grows (10 * v + (b - 48)) (word_in (drop (i + 1) line)))))
 
   -- a digit more
-  pub scan_goes : 48 ≤ get_or line i 0 → get_or line i 0 ≤ 57 → 10 * v + (get_or line i 0 - 48) ≤ 4294967295 → Scanned line from (10 * v + (get_or line i 0 - 48)) (i + 1)
+  pub scan_goes : digit b ≡ true → 10 * v + (b - 48) ≤ 4294967295 → Scanned line from (10 * v + (b - 48)) (i + 1)
   unfolding digits
-  scan_goes p q l =
+  scan_goes d l =
       record {
         reached = omega (arith, s.reached);
         within = omega arith;
         small = l;
-        all = s.all ∙ ap digits (word_more line i h e) ∙ rw (digit_is (get_or line i 0) p q);
+        all = s.all ∙ ap digits more ∙ rw d;
         worth = worth_next;
-        long = omega (arith, s.long, ap length (word_more line i h e));
+        long = omega (arith, s.long, ap length more);
       }
 
 -- the word ends
 module _ (line : List ℕ) (from v i : ℕ) (s : Scanned line from v i) (w : word_in (drop i line) ≡ []) where
-  pub no_word : i ≡ from → Not ≡ number_at line from
+  pub no_word : i ≡ from → None ≡ number_at line from
   no_word q = number_not line from (no_digits (word_in (drop from line)) (omega (arith, s.long, ap length w)))
 
-  pub word_read : (i ≡ from → ⊥) → Value v i ≡ number_at line from
+  pub word_read : (i ≡ from → ⊥) → Some (v, i) ≡ number_at line from
   unfolding digits value_after
   word_read q =
       let worth : value (word_in (drop from line)) ≡ v = s.worth ∙ ap (value_after v) w in
@@ -135,38 +119,38 @@ some_numeral [] h = absurd (let z : ◌≡◌ {A = ℕ} 0 1 = cc in omega arith)
 some_numeral (b ∷ bs) h = omega arith
 
 -- what the number at a place says of its word
-abbrev pub told : Number → List ℕ → ℕ → Type 0
-told (Value v e) w from = (numeral w ≡ true) × (v ≡ value w) × (e ≡ from + length w)
-told Not w from = numeral w ≡ false
+abbrev pub told : Option (ℕ × ℕ) → List ℕ → ℕ → Type 0
+told (Some (v, e)) w from = (numeral w ≡ true) × (v ≡ value w) × (e ≡ from + length w)
+told None w from = numeral w ≡ false
 
 pub number_told : (line : List ℕ) (from : ℕ) → told (number_at line from) (word_in (drop from line)) from
 unfolding number_at
 number_told line from = go (numeral (word_in (drop from line))) refl
   where
     go : (t : Bool) → numeral (word_in (drop from line)) ≡ t
-        → told (cond t (Value (value (word_in (drop from line))) (from + length (word_in (drop from line)))) Not) (word_in (drop from line)) from
+        → told (cond t (Some (value (word_in (drop from line)), from + length (word_in (drop from line)))) None) (word_in (drop from line)) from
     go true e = (e, refl, refl)
     go false e = e
 
-pub value_told : (line : List ℕ) (i v e : ℕ) → Value v e ≡ number_at line i → told (Value v e) (word_in (drop i line)) i
+pub value_told : (line : List ℕ) (i v e : ℕ) → Some (v, e) ≡ number_at line i → told (Some (v, e)) (word_in (drop i line)) i
 value_told line i v e a = subst⁻¹ (λ x. told x (word_in (drop i line)) i) a (number_told line i)
 
-pub number_within : (line : List ℕ) (i v e : ℕ) → Value v e ≡ number_at line i → i ≤ length line → e ≤ length line
+pub number_within : (line : List ℕ) (i v e : ℕ) → Some (v, e) ≡ number_at line i → i ≤ length line → e ≤ length line
 number_within line i v e a h =
     omega (arith, (value_told line i v e a).2, word_length (drop i line), index_within 32 (drop i line), length-drop i line)
 
 -- the answer for n words more in front
-abbrev pub plus : ℕ → Numbers → Numbers
-plus n (All m) = All (n + m)
-plus n (Bad k) = Bad (n + k)
+abbrev pub plus : ℕ → Result ℕ NotANumber → Result ℕ NotANumber
+plus n (Ok m) = Ok (n + m)
+plus n (Err e) = Err (record { word = n + e.word })
 
-plus_none : (x : Numbers) → x ≡ plus 0 x
-plus_none (All m) = ap All (omega arith)
-plus_none (Bad k) = ap Bad (omega arith)
+plus_none : (x : Result ℕ NotANumber) → x ≡ plus 0 x
+plus_none (Ok m) = ap Ok (omega arith)
+plus_none (Err e) = ap (λ k. Err (record { word = k })) (omega arith)
 
-plus_one : (n : ℕ) (x : Numbers) → plus n (behind x) ≡ plus (n + 1) x
-plus_one n (All m) = ap All (omega arith)
-plus_one n (Bad k) = ap Bad (omega arith)
+plus_one : (n : ℕ) (x : Result ℕ NotANumber) → plus n (behind x) ≡ plus (n + 1) x
+plus_one n (Ok m) = ap Ok (omega arith)
+plus_one n (Err e) = ap (λ k. Err (record { word = k })) (omega arith)
 
 -- what is known when n words from `from` on are read and the next begins at i: what is left to answer, and what is stored
 pub record Read (line : List ℕ) (from : ℕ) (out : List ℕ) (n i : ℕ) : Type 0 where
@@ -205,15 +189,15 @@ module _ (line : List ℕ) (from : ℕ) (out : List ℕ) (n i : ℕ) (r : Read l
       ∙ ap (λ k. word_in (drop i line) ∷ words (drop (i + k) line)) (sym (word_length (drop i line)))
 
   -- the next word is no number
-  pub read_bad : Not ≡ number_at line i → Bad n ≡ numbers_in (words (drop from line))
+  pub read_bad : None ≡ number_at line i → Err (record { word = n }) ≡ numbers_in (words (drop from line))
   unfolding numbers_in
   read_bad e =
       let w : numeral (word_in (drop i line)) ≡ false = subst⁻¹ (λ x. told x (word_in (drop i line)) i) e (number_told line i) in
       sym (r.rest ∙ ap (λ ws. plus n (numbers_in ws)) first ∙ rw (w, add-zero))
 
   -- it is one, and is stored
-  module _ (v e j : ℕ) (m : n < length out) (a : Value v e ≡ number_at line i) (q : j ≡ e + spaces (drop e line)) (k : j ≤ length line) where
-    is : told (Value v e) (word_in (drop i line)) i
+  module _ (v e j : ℕ) (m : n < length out) (a : Some (v, e) ≡ number_at line i) (q : j ≡ e + spaces (drop e line)) (k : j ≤ length line) where
+    is : told (Some (v, e)) (word_in (drop i line)) i
     is = value_told line i v e a
 
     pub read_further : i < j
@@ -237,7 +221,7 @@ module _ (line : List ℕ) (from : ℕ) (out : List ℕ) (n i : ℕ) (r : Read l
 
 -- no word is left
 module _ (line : List ℕ) (from : ℕ) (out : List ℕ) (n i : ℕ) (r : Read line from out n i) (h : length line ≤ i) where
-  pub read_all : All n ≡ numbers_in (words (drop from line))
+  pub read_all : Ok n ≡ numbers_in (words (drop from line))
   unfolding numbers_in words parts not_empty
   read_all = sym (r.rest ∙ rw (drop_of_length-le line {i = i} h, add-zero))
 

@@ -1,29 +1,36 @@
 -- Laws of the words of a line, and of its end.
 -- Assumes nothing.
-use mathlib.Core.Path.{◌≡◌, refl, ◌∙◌, ap}
+use mathlib.Core.Path.{◌≡◌, refl, sym, ◌∙◌, ap}
 use mathlib.Core.Bool.{Bool, true, false, cond}
 use mathlib.Core.List.{List, [], ◌∷◌}
 use Prim.Native.Nat.{ℕ, suc, ◌+◌, ◌-◌, ◌<◌, ◌≤◌}
-use native.Mathlib.Numerals.{add-one}
+use native.Mathlib.Numerals.{add-one, one-add}
 use native.Mathlib.Omega.{arith}
 use lib.Dec.{eqb}
 use lib.ListN.{length, get_or, take, drop, drop_of_length-le, length-take, length-drop}
 use lib.Seq.{drop-cons, take-take, get_or-take, get_or-drop}
 use borrow.Author.Tests.{eq-eqb, ne_eqb}
+use Rattle.std.specs.Prelude.{Option, Some, None}
+use Rattle.std.specs.List.{prefix_len, position_or_len}
+use Rattle.std.specs.Option.{unwrap_or}
+use Rattle.std.proofs.lemmas.Bool.{false_from_ne_true}
 use Rattle.std.proofs.lemmas.List.Recursion.{is_position_or_len}
 use Rattle.std.proofs.lemmas.List.Sums.{position_or_len_is}
+use Rattle.memchr.specs.Find.{IsFirstByte, is_byte}
 use Rattle.lines.specs.Words.{index_of, index_after, onto, parts, not_empty, words, spaces, word_in, without_return}
 
--- the first place at which a byte stands, or the end
-pub first_place : (b : ℕ) (xs : List ℕ) (i : ℕ) → i ≤ length xs → ((k : ℕ) → k < i → eqb (get_or xs k 0) b ≡ false)
-    → (i < length xs → eqb (get_or xs i 0) b ≡ true) → index_of b xs ≡ i
+-- the first place at which a byte stands, as it is found, or the end
+pub found : (b : ℕ) (xs : List ℕ) (r : Option ℕ) → IsFirstByte (is_byte b) xs r → unwrap_or r (length xs) ≡ index_of b xs
 unfolding index_of
-first_place b xs i h before at =
-    is_position_or_len (index_of b) (λ x. eqb x b) refl (λ x xs. step x xs (eqb x b)) xs ∙ position_or_len_is (λ x. eqb x b) xs i 0 h before at
+found b xs r e = sym (is_position_or_len (index_of b) (is_byte b) refl (λ x xs. step x xs (eqb x b)) xs ∙ go r e)
   where
     step : (x : ℕ) (xs : List ℕ) (t : Bool) → index_after t (index_of b xs) ≡ cond t 0 (1 + index_of b xs)
     step x xs true = refl
     step x xs false = omega arith
+
+    go : (r : Option ℕ) → IsFirstByte (is_byte b) xs r → position_or_len (is_byte b) xs ≡ unwrap_or r (length xs)
+    go (Some k) e = position_or_len_is (is_byte b) xs k 0 (omega (arith, e.0.high)) (λ j h. false_from_ne_true _ (e.0.before j (omega arith) h)) (λ h. e.1)
+    go None e = position_or_len_is (is_byte b) xs (length xs) 0 (omega arith) (λ j h. false_from_ne_true _ (e j (omega arith) h)) (λ h. absurd (omega arith))
 
 pub index_within : (b : ℕ) (xs : List ℕ) → index_of b xs ≤ length xs
 unfolding index_of
@@ -35,28 +42,15 @@ index_within b (x ∷ xs) = go (eqb x b) (index_within b xs)
     go false h = omega arith
 
 -- the spaces that a line begins with
-space_first : (b : ℕ) (bs : List ℕ) → b ≡ 32 → spaces (b ∷ bs) ≡ suc (spaces bs)
+pub spaces_are : (xs : List ℕ) → spaces xs ≡ prefix_len (λ x. eqb x 32) xs
 unfolding spaces
-space_first b bs e = rw (eq-eqb b 32 e)
-
-other_first : (b : ℕ) (bs : List ℕ) → (b ≡ 32 → ⊥) → spaces (b ∷ bs) ≡ 0
-unfolding spaces
-other_first b bs e = rw (ne_eqb b 32 e)
+spaces_are [] = refl
+spaces_are (b ∷ bs) = simp (one-add, spaces_are bs)
 
 module _ (line : List ℕ) (i : ℕ) where
   -- a line from one of its places on
   pub from_place : i < length line → drop i line ≡ get_or line i 0 ∷ drop (i + 1) line
   from_place h = rw (add-one, drop-cons line i 0 h)
-
-  pub spaces_more : i < length line → get_or line i 0 ≡ 32 → i + spaces (drop i line) ≡ i + 1 + spaces (drop (i + 1) line)
-  spaces_more h e = omega (arith, ap spaces (from_place h), space_first (get_or line i 0) (drop (i + 1) line) e)
-
-  pub spaces_stop : i < length line → (get_or line i 0 ≡ 32 → ⊥) → spaces (drop i line) ≡ 0
-  spaces_stop h e = ap spaces (from_place h) ∙ other_first (get_or line i 0) (drop (i + 1) line) e
-
-  pub spaces_end : length line ≤ i → spaces (drop i line) ≡ 0
-  unfolding spaces
-  spaces_end h = rw (drop_of_length-le line {i = i} h) refl
 
 -- what stands before the first space
 index_space : (b : ℕ) (bs : List ℕ) → b ≡ 32 → index_of 32 (b ∷ bs) ≡ 0

@@ -1,10 +1,7 @@
 -- The numbers of a line.
 -- Assumes nothing.
-use Rattle.std.specs.Prelude.{◌≡◌, Bool, true, false, cond, ◌&&◌, List, [], ◌∷◌, map, ℕ, suc, ◌+◌, ◌-◌, ◌*◌, ◌<◌, ◌≤◌, leb, length, take, drop}
-use Rattle.lines.specs.declared.Number.{Number}
-use Rattle.lines.specs.declared.Number.TheVariants.{Value, Not}
-use Rattle.lines.specs.declared.Numbers.{Numbers}
-use Rattle.lines.specs.declared.Numbers.TheVariants.{All, Bad}
+use Rattle.std.specs.Prelude.{◌≡◌, Bool, true, false, cond, ◌&&◌, List, [], ◌∷◌, map, ℕ, suc, ◌+◌, ◌-◌, ◌*◌, ◌<◌, ◌≤◌, leb, length, take, drop, Option, Some, None, Result, Ok, Err}
+use Rattle.lines.specs.declared.NotANumber.{NotANumber}
 use Rattle.lines.specs.Words.{words, word_in}
 
 -- the digits 0 to 9 are the bytes 48 to 57
@@ -29,21 +26,21 @@ numeral [] = false
 numeral (d ∷ ds) = digits (d ∷ ds) && leb (value (d ∷ ds)) 4294967295
 
 -- the number that begins at a place of a line, with the place behind it
-unfoldable pub number_at : List ℕ → ℕ → Number
+unfoldable pub number_at : List ℕ → ℕ → Option (ℕ × ℕ)
 number_at line from =
-    let w = word_in (drop from line) in cond (numeral w) (Value (value w) (from + length w)) Not
+    let w = word_in (drop from line) in cond (numeral w) (Some (value w, from + length w)) None
 
 -- one word more in front
-abbrev pub behind : Numbers → Numbers
-behind (All n) = All (suc n)
-behind (Bad k) = Bad (suc k)
+abbrev pub behind : Result ℕ NotANumber → Result ℕ NotANumber
+behind (Ok n) = Ok (suc n)
+behind (Err e) = Err (record { word = suc e.word })
 
 -- how many words there are where each is a number, and else the place, counted from 0, of the first that is none
-unfoldable pub numbers_in : List (List ℕ) → Numbers
-numbers_in [] = All 0
-numbers_in (w ∷ ws) = cond (numeral w) (behind (numbers_in ws)) (Bad 0)
+unfoldable pub numbers_in : List (List ℕ) → Result ℕ NotANumber
+numbers_in [] = Ok 0
+numbers_in (w ∷ ws) = cond (numeral w) (behind (numbers_in ws)) (Err (record { word = 0 }))
 
 -- what is written out for a part of a line: where each word is a number, their values, in order. No place is outside the part.
-abbrev pub Written : Numbers → List ℕ → List ℕ → Type 0
-Written (All n) line out = (n ≤ length line) × (take n out ≡ map value (words line))
-Written (Bad k) line out = k < length line
+abbrev pub Written : Result ℕ NotANumber → List ℕ → List ℕ → Type 0
+Written (Ok n) line out = (n ≤ length line) × (take n out ≡ map value (words line))
+Written (Err e) line out = e.word < length line

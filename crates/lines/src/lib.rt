@@ -9,18 +9,10 @@ ghost use Rattle.lines.specs.Numerals.{number_at, numbers_in, Written};
 
 use memchr::memchr;
 
-// A number and the place behind it, or a word that is no number.
-#[derive(Clone, Copy)]
-pub enum Number {
-    Value(u32, usize),
-    Not,
-}
-
-// How many numbers, or the place of the first word that is none, counted from 0.
-#[derive(Clone, Copy)]
-pub enum Numbers {
-    All(usize),
-    Bad(usize),
+// A word that is no number: its place among the words read, counted from 0.
+#[derive(Clone, Copy, Debug, PartialEq, Eq)]
+pub struct NotANumber {
+    pub word: usize,
 }
 
 // The place of the first byte `b` of s[from..to], or `to`.
@@ -29,10 +21,8 @@ fn find(s: &[u8], from: usize, to: usize, b: u8) -> usize
     ensures value { result ≡ from + index_of b (take (to - from) (drop from s.now)) }
     ensures upper_bound { result ≤ to }
 {
-    match memchr(b, &s[from..to]) {
-        Some(k) => from + k,
-        None => to,
-    }
+    let part = &s[from..to];
+    from + memchr(b, part).unwrap_or(part.len())
 }
 
 // The place of the first line feed of s[from..to], or `to`.
@@ -50,14 +40,11 @@ pub fn without_return(s: &[u8], from: usize, to: usize) -> usize
     ensures s_value { take (result - from) (drop from s.now) ≡ without_return (take (to - from) (drop from s.now)) }
     ensures lower_bound { (from ≤ result) × (result ≤ to) }
 {
-    if from == to {
-        return to;
+    if from < to && s[to - 1] == b'\r' {
+        to - 1
+    } else {
+        to
     }
-    let last = to - 1;
-    if s[last] == b'\r' {
-        return last;
-    }
-    to
 }
 
 // The first byte at or behind `from` that is no space, or the length.
@@ -66,14 +53,7 @@ pub fn word_start(line: &[u8], from: usize) -> usize
     ensures value { result ≡ from + spaces (drop from line.now) }
     ensures upper_bound { result ≤ length line.now }
 {
-    let mut i = from;
-    while i < line.len() {
-        if line[i] != b' ' {
-            return i;
-        }
-        i += 1;
-    }
-    i
+    from + line[from..].iter().take_while(|b| **b == b' ').count()
 }
 
 // The first space at or behind `from`, or the length.
@@ -85,38 +65,35 @@ pub fn word_end(line: &[u8], from: usize) -> usize
     find(line, from, line.len(), b' ')
 }
 
-// The number that begins at `from`. A word is left at its first byte that is no digit, and once its value is too large.
-pub fn number_at(line: &[u8], from: usize) -> Number
+// The number that begins at `from`, with the place behind it. A word is left at its first byte that is no digit, and once its value is too large.
+pub fn number_at(line: &[u8], from: usize) -> Option<(u32, usize)>
     requires { from ≤ length line.now }
     ensures { result ≡ number_at line.now from }
 {
     let mut v: u64 = 0;
-    let mut i = from;
-    while i < line.len() {
-        let b = line[i];
+    let mut end = from;
+    for &b in &line[from..] {
         if b == b' ' {
             break;
         }
-        if b < b'0' {
-            return Number::Not;
+        if !b.is_ascii_digit() {
+            return None;
         }
-        if b > b'9' {
-            return Number::Not;
+        v = 10 * v + u64::from(b - b'0');
+        if v > u64::from(u32::MAX) {
+            return None;
         }
-        v = 10 * v + (b - b'0') as u64;
-        if v > 4_294_967_295 {
-            return Number::Not;
-        }
-        i += 1;
+        end += 1;
     }
-    if i == from {
-        return Number::Not;
+    if end == from {
+        None
+    } else {
+        Some((v as u32, end))
     }
-    Number::Value(v as u32, i)
 }
 
-// All words from `from` on, as numbers. `out` has a place for each, since a word has a byte at least.
-pub fn numbers_from(line: &[u8], from: usize, out: &mut [u32]) -> Numbers
+// All words from `from` on, as numbers, and how many these are. `out` has a place for each, since a word has a byte at least.
+pub fn numbers_from(line: &[u8], from: usize, out: &mut [u32]) -> Result<usize, NotANumber>
     requires { (from ≤ length line.now) × (length line.now ≤ length out.old) }
     ensures value { result ≡ numbers_in (words (drop from line.now)) }
     ensures written { Written result (drop from line.now) out.new }
@@ -124,13 +101,10 @@ pub fn numbers_from(line: &[u8], from: usize, out: &mut [u32]) -> Numbers
     let mut i = word_start(line, from);
     let mut n: usize = 0;
     while i < line.len() {
-        let read = number_at(line, i);
-        let Number::Value(v, end) = read else {
-            return Numbers::Bad(n);
-        };
+        let (v, end) = number_at(line, i).ok_or(NotANumber { word: n })?;
         out[n] = v;
         n += 1;
         i = word_start(line, end);
     }
-    Numbers::All(n)
+    Ok(n)
 }

@@ -1,6 +1,6 @@
 -- The calls' own words: their names, in the words of the desk's protocol, and how many numbers each takes.
 -- Assumes nothing.
-use Rattle.std.specs.Prelude.{◌≡◌, Bool, true, false, cond, ◌&&◌, List, [], ◌∷◌, ℕ, ◌%◌, ◌≤◌, leb, eqb, length, take}
+use Rattle.std.specs.Prelude.{◌≡◌, Bool, true, false, cond, ◌&&◌, List, [], ◌∷◌, ℕ, ◌%◌, ◌≤◌, leb, eqb, length, Option, Some, None}
 use Rattle.texts.specs.Texts.{bytes_of}
 use Rattle.naming.specs.declared.CodeStep.TheVariants.{Put, Open, Close, Drop, Ask, Confirm, Direct}
 use Rattle.naming.specs.declared.Query.TheVariants.{Benchmark, Maximum, Quote, Trial}
@@ -9,8 +9,6 @@ use Rattle.naming.specs.declared.Word.TheVariants.{Set, Undo, On, Tells, Rebate}
 use Rattle.naming.specs.declared.Arity.{Arity}
 use Rattle.naming.specs.declared.Arity.TheVariants.{Exactly, AtLeast, Each}
 use Rattle.naming.specs.declared.Form.{Form}
-use Rattle.naming.specs.declared.Named.{Named}
-use Rattle.naming.specs.declared.Named.TheVariants.{By, None}
 
 -- the fourteen calls: SET, UNDO, seven on a code, four that tell of the book, and REBATE
 abbrev pub calls : List Word
@@ -68,9 +66,8 @@ RightCount (Each k) n = n % k ≡ 0
 
 -- a form with this name and this arity
 pub record FormOf (name : List ℕ) (a : Arity) (f : Form) : Type 0 where
-  pub text : take f.size f.name ≡ name
-  pub within : f.size ≤ length f.name
-  pub most : length f.name ≡ 9
+  pub text : f.name.now ≡ name
+  pub most : length f.name.now ≤ 9
   pub count : f.arity ≡ a
 
 -- whether two lists of bytes are the same
@@ -81,6 +78,6 @@ same (x ∷ xs) [] = false
 same (x ∷ xs) (y ∷ ys) = eqb x y && same xs ys
 
 -- the first of some calls whose name a word is
-unfoldable pub named : List Word → List ℕ → Named
+unfoldable pub named : List Word → List ℕ → Option Word
 named [] w = None
-named (c ∷ cs) w = cond (same w (name_of c)) (By c) (named cs w)
+named (c ∷ cs) w = cond (same w (name_of c)) (Some c) (named cs w)

@@ -4,7 +4,7 @@
 // writes it goes by these.
 #![tactic(auto)]
 
-ghost use Rattle.std.specs.Prelude.{◌≡◌, ◌≤◌, length, get_or, take};
+ghost use Rattle.std.specs.Prelude.{◌≡◌, ◌≤◌, length, get_or};
 ghost use Rattle.naming.specs.declared.Word.{Word};
 ghost use Rattle.naming.specs.Naming.{calls, name_of, arity, right_count, FormOf, named};
 
@@ -12,7 +12,7 @@ ghost use Rattle.naming.specs.Naming.{calls, name_of, arity, right_count, FormOf
 pub const ACCOUNT_NUMBERS: usize = 16;
 
 // The calls that may change the place of a code.
-#[derive(Clone, Copy)]
+#[derive(Clone, Copy, Debug, PartialEq, Eq)]
 pub enum CodeStep {
     Put,
     Open,
@@ -24,7 +24,7 @@ pub enum CodeStep {
 }
 
 // The calls that tell of the book.
-#[derive(Clone, Copy)]
+#[derive(Clone, Copy, Debug, PartialEq, Eq)]
 pub enum Query {
     Benchmark,
     Maximum,
@@ -33,7 +33,7 @@ pub enum Query {
 }
 
 // A call's own word: SET, UNDO, a call on a code, one that tells, or REBATE.
-#[derive(Clone, Copy)]
+#[derive(Clone, Copy, Debug, PartialEq, Eq)]
 pub enum Word {
     Set,
     Undo,
@@ -43,7 +43,7 @@ pub enum Word {
 }
 
 // How many numbers a call takes.
-#[derive(Clone, Copy)]
+#[derive(Clone, Copy, Debug, PartialEq, Eq)]
 pub enum Arity {
     Exactly(usize),
     AtLeast(usize),
@@ -51,26 +51,18 @@ pub enum Arity {
     Each(usize),
 }
 
-// How a call is written: its name, which is the first `size` of these bytes, and how many numbers it takes.
-#[derive(Clone, Copy)]
+// How a call is written: its name, and how many numbers it takes.
+#[derive(Clone, Copy, Debug, PartialEq, Eq)]
 pub struct Form {
-    pub name: [u8; 9],
-    pub size: usize,
+    pub name: &'static [u8],
     pub arity: Arity,
 }
 
-// The call that a word names.
-#[derive(Clone, Copy)]
-pub enum Named {
-    By(Word),
-    None,
-}
-
-fn formed(name: [u8; 9], size: usize, arity: Arity) -> Form
-    requires { size ≤ 9 }
-    ensures { FormOf (take size name) arity result }
+fn formed(name: &'static [u8], arity: Arity) -> Form
+    requires { length name.now ≤ 9 }
+    ensures { FormOf name.now arity result }
 {
-    Form { name, size, arity }
+    Form { name, arity }
 }
 
 // The form of each call.
@@ -78,24 +70,20 @@ pub fn form_of(word: Word) -> Form
     ensures { FormOf (name_of word) (arity word) result }
 {
     match word {
-        Word::Set => formed(*b"set      ", 3, Arity::AtLeast(3)),
-        Word::Undo => formed(*b"undo     ", 4, Arity::Exactly(0)),
-        Word::On(step) => match step {
-            CodeStep::Put => formed(*b"put      ", 3, Arity::AtLeast(1)),
-            CodeStep::Open => formed(*b"open     ", 4, Arity::Exactly(1)),
-            CodeStep::Close => formed(*b"close    ", 5, Arity::Exactly(1)),
-            CodeStep::Drop => formed(*b"drop     ", 4, Arity::Exactly(1)),
-            CodeStep::Ask => formed(*b"ask      ", 3, Arity::Exactly(1)),
-            CodeStep::Confirm => formed(*b"confirm  ", 7, Arity::Exactly(1)),
-            CodeStep::Direct => formed(*b"direct   ", 6, Arity::Exactly(1)),
-        },
-        Word::Tells(query) => match query {
-            Query::Benchmark => formed(*b"benchmark", 9, Arity::Exactly(4)),
-            Query::Maximum => formed(*b"maximum  ", 7, Arity::Exactly(4)),
-            Query::Quote => formed(*b"quote    ", 5, Arity::AtLeast(3)),
-            Query::Trial => formed(*b"trial    ", 5, Arity::AtLeast(3)),
-        },
-        Word::Rebate => formed(*b"rebate   ", 6, Arity::Each(ACCOUNT_NUMBERS)),
+        Word::Set => formed(b"set", Arity::AtLeast(3)),
+        Word::Undo => formed(b"undo", Arity::Exactly(0)),
+        Word::On(CodeStep::Put) => formed(b"put", Arity::AtLeast(1)),
+        Word::On(CodeStep::Open) => formed(b"open", Arity::Exactly(1)),
+        Word::On(CodeStep::Close) => formed(b"close", Arity::Exactly(1)),
+        Word::On(CodeStep::Drop) => formed(b"drop", Arity::Exactly(1)),
+        Word::On(CodeStep::Ask) => formed(b"ask", Arity::Exactly(1)),
+        Word::On(CodeStep::Confirm) => formed(b"confirm", Arity::Exactly(1)),
+        Word::On(CodeStep::Direct) => formed(b"direct", Arity::Exactly(1)),
+        Word::Tells(Query::Benchmark) => formed(b"benchmark", Arity::Exactly(4)),
+        Word::Tells(Query::Maximum) => formed(b"maximum", Arity::Exactly(4)),
+        Word::Tells(Query::Quote) => formed(b"quote", Arity::AtLeast(3)),
+        Word::Tells(Query::Trial) => formed(b"trial", Arity::AtLeast(3)),
+        Word::Rebate => formed(b"rebate", Arity::Each(ACCOUNT_NUMBERS)),
     }
 }
 
@@ -103,58 +91,37 @@ pub fn form_of(word: Word) -> Form
 fn beginning(first: u8, size: usize) -> Word
     ensures { (c : Word) → get_or (name_of c) 0 0 ≡ first → length (name_of c) ≡ size → c ≡ result }
 {
-    match first {
-        b'a' => Word::On(CodeStep::Ask),
-        b'b' => Word::Tells(Query::Benchmark),
-        b'c' => {
-            if size == 5 {
-                Word::On(CodeStep::Close)
-            } else {
-                Word::On(CodeStep::Confirm)
-            }
-        }
-        b'd' => {
-            if size == 4 {
-                Word::On(CodeStep::Drop)
-            } else {
-                Word::On(CodeStep::Direct)
-            }
-        }
-        b'm' => Word::Tells(Query::Maximum),
-        b'o' => Word::On(CodeStep::Open),
-        b'p' => Word::On(CodeStep::Put),
-        b'q' => Word::Tells(Query::Quote),
-        b'r' => Word::Rebate,
-        b's' => Word::Set,
-        b'u' => Word::Undo,
+    match (first, size) {
+        (b'a', _) => Word::On(CodeStep::Ask),
+        (b'b', _) => Word::Tells(Query::Benchmark),
+        (b'c', 5) => Word::On(CodeStep::Close),
+        (b'c', _) => Word::On(CodeStep::Confirm),
+        (b'd', 4) => Word::On(CodeStep::Drop),
+        (b'd', _) => Word::On(CodeStep::Direct),
+        (b'm', _) => Word::Tells(Query::Maximum),
+        (b'o', _) => Word::On(CodeStep::Open),
+        (b'p', _) => Word::On(CodeStep::Put),
+        (b'q', _) => Word::Tells(Query::Quote),
+        (b'r', _) => Word::Rebate,
+        (b's', _) => Word::Set,
+        (b'u', _) => Word::Undo,
         _ => Word::Tells(Query::Trial),
     }
 }
 
 // The call that a word names: the one whose name begins as the word does and is as long, where that name is the word.
-pub fn call_named(word: &[u8]) -> Named
+pub fn call_named(word: &[u8]) -> Option<Word>
     ensures { result ≡ named calls word.now }
 {
-    if word.len() == 0 {
-        return Named::None;
-    }
-    let call = beginning(word[0], word.len());
-    let form = form_of(call);
-    let name = form.name;
-    let size = form.size;
-    if word == &name[..size] {
-        return Named::By(call);
-    }
-    Named::None
+    let call = beginning(*word.first()?, word.len());
+    (word == form_of(call).name).then_some(call)
 }
 
 // Whether a call takes n numbers.
 pub fn right_count(word: Word, n: usize) -> bool
     ensures { result ≡ right_count (arity word) n }
 {
-    let form = form_of(word);
-    let arity = form.arity;
-    match arity {
+    match form_of(word).arity {
         Arity::Exactly(k) => n == k,
         Arity::AtLeast(k) => k <= n,
         Arity::Each(k) => n % k == 0,

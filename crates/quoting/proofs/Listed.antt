@@ -7,11 +7,12 @@ use Prim.Native.Nat.{ℕ, ◌<◌, ◌≤◌}
 use native.Mathlib.Decide.{dec_lt}
 use native.Mathlib.Omega.{arith}
 use lib.Dec.{leb, eqb}
+use Rattle.std.specs.Prelude.{MatchBool}
+use Rattle.std.specs.List.{AllWithin, HoldsAt}
 use lib.ListN.{length, get_or, get_or-eq_default}
-use borrow.Author.Tests.{leb-true, lt-leb, eqb-true, eq-eqb, ne_eqb}
+use borrow.Author.Tests.{leb-true, le-leb, lt-leb, eqb-true, eq-eqb}
 use Rattle.laws.specs.Notions.{every}
-use Rattle.laws.proofs.Every.{every_at, and_left, and_right}
-use Rattle.laws.proofs.Answers.{stops, ends}
+use Rattle.laws.proofs.Every.{every_at, every_all, every_not, and_left, and_right}
 use Rattle.benchmark.specs.declared.Benchmarks.{Benchmarks}
 use Rattle.cap.specs.declared.CellNumbers.{CellNumbers}
 use Rattle.cap.specs.Cap.{Months}
@@ -22,22 +23,15 @@ use Rattle.quoting.specs.Quote.{months_allowed}
 abbrev pub small : List ℕ → ℕ → Bool
 small months j = leb (get_or months j 0) 10000
 
--- a list of another length, one with a month above 10,000, and one that passes every test
-module _ (t : ℕ) (months : List ℕ) where
-  pub other_length : (length months ≡ t → ⊥) → false ≡ months_allowed t months
-  unfolding months_allowed
-  other_length h = rw (ne_eqb (length months) t h)
-
-  pub month_above : (i : ℕ) → i < length months → 10000 < get_or months i 0 → false ≡ months_allowed t months
-  unfolding months_allowed
-  month_above i h l =
-      let fails = sym (stops (small months) (length months) i h (lt-leb (get_or months i 0) 10000 l)) in
-      sym (ap (◌&&◌ (eqb (length months) t)) fails ∙ and-false (eqb (length months) t))
-
-  pub all_pass : length months ≡ t → (i : ℕ) → i ≤ length months → length months ≤ i → every i (small months) ≡ true
-      → true ≡ months_allowed t months
-  unfolding months_allowed
-  all_pass h i l k e = rw (eq-eqb (length months) t h) (ends (small months) (length months) i l k e)
+-- of a list of t months, what `all` finds of each month is the whole test
+pub each_small : (t : ℕ) (months : List ℕ) (r : Bool) → length months ≡ t
+    → MatchBool r (AllWithin (λ m. m ≤ 10000) months 0 (length months)) ((k : ℕ) × (k < length months) × HoldsAt (λ m. 10000 < m) months k)
+    → r ≡ months_allowed t months
+unfolding months_allowed
+each_small t months true h m =
+    rw (eq-eqb (length months) t h) (sym (every_all (small months) (length months) (λ i k. le-leb _ _ (m i 0 (omega arith) k))))
+each_small t months false h m =
+    rw (eq-eqb (length months) t h) (sym (every_not (small months) (length months) m.0 m.1 (lt-leb _ _ (m.2 0))))
 
 -- a list that 13 allows is one of t months
 pub months_within : (t : ℕ) (months : List ℕ) → months_allowed t months ≡ true → Months t months

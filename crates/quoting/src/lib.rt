@@ -20,45 +20,30 @@ use refusal::Check;
 use tariff::Tariff;
 
 // Whether a tariff is offered in a region by a method.
+#[tactic(auto, unfolding(crate::specs::Quote::cell_allowed, verdict::specs::Cells::offered))]
 fn cell_allowed(x: Tariff, region: u32, method: u32) -> bool
     ensures { result ≡ cell_allowed x region method }
 {
-    if 14 <= region {
-        return false;
-    }
-    if 2 <= method {
-        return false;
-    }
-    tariff::has(x.regions, region) && tariff::has(x.methods, method)
+    region < 14 && method < 2 && tariff::has(x.regions, region) && tariff::has(x.methods, method)
 }
 
 // Whether a list has t months of at most 10,000 kWh.
+#[tactic(auto, unfolding(crate::specs::Quote::months_allowed))]
 fn months_allowed(months: &[u32], t: u32) -> bool
     ensures { result ≡ months_allowed t months.now }
 {
-    if months.len() != t as usize {
-        return false;
-    }
-    let mut i: usize = 0;
-    while i < months.len() {
-        if 10_000 < months[i] {
-            return false;
-        }
-        i += 1;
-    }
-    true
+    months.len() == t as usize && months.iter().all(|month| *month <= 10_000)
 }
 
 // 13: region or method not offered, the list not t long, or a month above 10,000. Then 17: the tariff is not offered in the desk's regions alone.
 fn quote_check(desk: u32, x: Tariff, region: u32, method: u32, t: u32, months: &[u32]) -> Check
     ensures { result ≡ quote_check desk t x region method months.now }
 {
-    if cell_allowed(x, region, method) {
-        if months_allowed(months, t) {
-            return desks::use_check(desk, x.regions);
-        }
+    if cell_allowed(x, region, method) && months_allowed(months, t) {
+        desks::use_check(desk, x.regions)
+    } else {
+        Check::Refuse(13)
     }
-    Check::Refuse(13)
 }
 
 // The checks of QUOTE (code, region, method, months): 6, 9, 10, 13, 17.
@@ -120,9 +105,15 @@ pub fn quote(b: Book, desk: u32, code: u32, region: u32, method: u32, months: &[
     requires { Reachable b }
     ensures { telling_of result ≡ quote_of b desk code region method months.now }
 {
-    let at = checks::index_of(code);
-    let places = b.places;
-    let p = places[at];
-    let figures = b.benchmarks;
-    quote_at(desk, code, p, b.loaded, figures, region, method, months)
+    let p = b.places[checks::index_of(code)];
+    quote_at(
+        desk,
+        code,
+        p,
+        b.loaded,
+        b.benchmarks,
+        region,
+        method,
+        months,
+    )
 }

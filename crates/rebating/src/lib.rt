@@ -22,12 +22,8 @@ fn months_of(numbers: &[u32]) -> [u32; 12]
     requires { account_numbers ≤ length numbers.now }
     ensures { result ≡ take months_most (drop 4 numbers.now) }
 {
-    let mut months = [0u32; 12];
-    let mut i: usize = 0;
-    while i < 12 {
-        months[i] = numbers[4 + i];
-        i += 1;
-    }
+    let mut months = [0; 12];
+    months.copy_from_slice(&numbers[4..16]);
     months
 }
 
@@ -59,11 +55,8 @@ fn first_accounts(numbers: &[u32], n: usize) -> [Account; ACCOUNTS_MOST]
         months: [0; 12],
         rebate: 0,
     }; ACCOUNTS_MOST];
-    let mut i: usize = 0;
-    while i < n {
-        let from = i * ACCOUNT_NUMBERS;
-        accounts[i] = account_of(&numbers[from..]);
-        i += 1;
+    for i in 0..n {
+        accounts[i] = account_of(&numbers[i * ACCOUNT_NUMBERS..]);
     }
     accounts
 }
@@ -75,11 +68,8 @@ fn ok_numbers(total: u64, accounts: [Account; ACCOUNTS_MOST], n: usize) -> [u64;
 {
     let mut numbers = [0u64; 1 + ACCOUNTS_MOST];
     numbers[0] = total;
-    let mut told: usize = 0;
-    while told < n {
-        let a = accounts[told];
-        numbers[1 + told] = a.rebate;
-        told += 1;
+    for told in 0..n {
+        numbers[1 + told] = accounts[told].rebate;
     }
     numbers
 }

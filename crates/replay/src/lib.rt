@@ -30,8 +30,8 @@ fn number_of(reply: Reply) -> u64
 {
     match reply {
         Reply::Accepted => 0,
-        Reply::Cells(cells) => 100 + cells as u64,
-        Reply::Refused(n) => n as u64,
+        Reply::Cells(cells) => 100 + u64::from(cells),
+        Reply::Refused(n) => u64::from(n),
         Reply::Over(_, _, _, _) => 11,
     }
 }
@@ -40,30 +40,20 @@ fn number_of(reply: Reply) -> u64
 fn number_at(calls: &[u32], at: usize) -> u32
     ensures { result ≡ get_or calls.now at 0 }
 {
-    if at < calls.len() {
-        return calls[at];
-    }
-    0
+    calls.get(at).copied().unwrap_or(0)
 }
 
 // Where the act at the start of a list ends, past the list where none stands there.
 fn end_of(calls: &[u32]) -> usize
     ensures { (result ≡ end_of calls.now) × (1 ≤ result) }
 {
-    let op = number_at(calls, 0);
-    if op == 0 {
-        return 5 + number_at(calls, 4) as usize;
+    match number_at(calls, 0) {
+        0 => 5 + number_at(calls, 4) as usize,
+        1 => 3 + number_at(calls, 2) as usize,
+        5 => 1,
+        2..=8 => 2,
+        _ => calls.len() + 1,
     }
-    if op == 1 {
-        return 3 + number_at(calls, 2) as usize;
-    }
-    if op == 5 {
-        return 1;
-    }
-    if op <= 8 {
-        return 2;
-    }
-    calls.len() + 1
 }
 
 // SET: 0, year, month, t, the count of fields and the fields.
@@ -91,19 +81,13 @@ fn put_to(b: Book, desk: u32, calls: &[u32], end: usize) -> Done
 fn code_act(op: u32) -> CodeAct
     ensures { result ≡ code_act_of op }
 {
-    if op == 2 {
-        return CodeAct::Open;
+    match op {
+        2 => CodeAct::Open,
+        3 => CodeAct::Close,
+        4 => CodeAct::Drop,
+        6 => CodeAct::Ask,
+        _ => CodeAct::Confirm,
     }
-    if op == 3 {
-        return CodeAct::Close;
-    }
-    if op == 4 {
-        return CodeAct::Drop;
-    }
-    if op == 6 {
-        return CodeAct::Ask;
-    }
-    CodeAct::Confirm
 }
 
 // The act that ends at `end` is done for a desk.
@@ -111,20 +95,13 @@ fn made(b: Book, desk: u32, calls: &[u32], end: usize) -> Done
     requires { Reachable b × (end ≡ end_of calls.now) × (1 ≤ end) × (end ≤ length calls.now) }
     ensures { Does b (by desk (act_to calls.now end)) result }
 {
-    let op = calls[0];
-    if op == 0 {
-        return set_to(b, desk, calls, end);
+    match calls[0] {
+        0 => set_to(b, desk, calls, end),
+        1 => put_to(b, desk, calls, end),
+        5 => undo::undo(b, desk),
+        8 => directing::direct(b, desk, number_at(calls, 1)),
+        op => codes::act_on(b, desk, number_at(calls, 1), code_act(op)),
     }
-    if op == 1 {
-        return put_to(b, desk, calls, end);
-    }
-    if op == 5 {
-        return undo::undo(b, desk);
-    }
-    if op == 8 {
-        return directing::direct(b, desk, number_at(calls, 1));
-    }
-    codes::act_on(b, desk, number_at(calls, 1), code_act(op))
 }
 
 // The call at the start of a list, a desk and its act; where none stands there, nothing is left to run.
@@ -143,11 +120,9 @@ fn one(b: Book, calls: &[u32]) -> Ran
         };
     }
     let did = made(b, desk, act, end);
-    let reply = did.reply;
-    let book = did.book;
     Ran {
-        number: number_of(reply),
-        book,
+        number: number_of(did.reply),
+        book: did.book,
         end: 1 + end,
     }
 }
@@ -162,11 +137,9 @@ fn run_from(b: Book, calls: &[u32], out: &mut [u64]) -> Book
     let mut n: usize = 0;
     while rest.len() > 0 && n < out.len() {
         let r = one(b, rest);
-        let after = r.book;
-        b = after;
+        b = r.book;
         out[n] = r.number;
-        let end = r.end;
-        rest = &rest[end..];
+        rest = &rest[r.end..];
         n += 1;
     }
     b

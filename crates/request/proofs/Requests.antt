@@ -1,7 +1,7 @@
 -- Laws of what a line asks for, as it is read.
 -- Assumes nothing.
 use mathlib.Core.Path.{◌≡◌, refl, sym, ◌∙◌, ap, subst⁻¹}
-use mathlib.Core.Bool.{Bool, true, false, cond, ◌&&◌}
+use mathlib.Core.Bool.{Bool, true, false, cond}
 use mathlib.Core.List.{List, [], ◌∷◌, map}
 use Prim.Native.Nat.{ℕ, ◌+◌, ◌-◌, ◌<◌, ◌≤◌}
 use native.Mathlib.Decide.{dec_le}
@@ -10,29 +10,22 @@ use lib.Dec.{eqb}
 use lib.ListN.{length, get_or, take, drop, drop_of_length-le, length-drop}
 use lib.Seq.{drop-drop, get_or-drop}
 use borrow.Author.Tests.{eq-eqb, ne_eqb}
+use Rattle.std.specs.Prelude.{Some, None, Ok, Err}
 use Rattle.std.specs.Cmp.Lexicographic.{pointwise}
 use Rattle.tariff.specs.Tariff.{all_fourteen}
-use Rattle.lines.specs.declared.Number.TheVariants.{Value, Not}
-use Rattle.lines.specs.declared.Numbers.TheVariants.{All, Bad}
+use Rattle.texts.specs.Texts.{bytes_of}
+use Rattle.lines.specs.declared.NotANumber.{NotANumber as BadWord}
 use Rattle.lines.specs.Words.{index_of, parts, not_empty, words, word_in, spaces}
 use Rattle.lines.specs.Numerals.{value, numeral, number_at, numbers_in}
 use Rattle.lines.proofs.Splitting.{index_within, word_length, first_word, first_byte}
 use Rattle.lines.proofs.Reading.{some_numeral, told, number_told, value_told, words_passed, none_left}
 use Rattle.naming.specs.declared.Word.{Word}
-use Rattle.naming.specs.declared.Named.TheVariants.{By, None}
 use Rattle.naming.specs.Naming.{calls, arity, right_count, same, named}
+use Rattle.naming.proofs.Names.{same_test}
 use Rattle.naming.proofs.Counts.{counted}
 use Rattle.request.specs.declared.Request.{Request}
 use Rattle.request.specs.declared.Request.TheVariants.{Nothing, Asks, NoCall, Unknown, NotANumber, WrongCount}
 use Rattle.request.specs.Requests.{asked_by, call_in, desk_line, names_desk, asked_in, request_of, numbers_of, Ready}
-
--- the library's test of two texts is the test of the definitions
-pub same_test : (xs ys : List ℕ) → pointwise eqb xs ys ≡ same xs ys
-unfolding same
-same_test [] [] = refl
-same_test [] (y ∷ ys) = refl
-same_test (x ∷ xs) [] = refl
-same_test (x ∷ xs) (y ∷ ys) = ap (λ t. eqb x y && t) (same_test xs ys)
 
 -- no word stands from `from` on
 pub no_words : (line : List ℕ) (from start : ℕ) → start ≡ from + spaces (drop from line) → start ≡ length line → words (drop from line) ≡ []
@@ -83,11 +76,11 @@ module _ {line : List ℕ} {from start end : ℕ} (f : WordAt line from start en
   pub call_unknown : None ≡ named calls (take (end - start) (drop start line)) → Unknown ≡ call_in desk skipped (words (drop from line))
   call_unknown a = sym (called ∙ rw (sym a))
 
-  module _ {w : Word} (a : By w ≡ named calls (take (end - start) (drop start line))) where
-    pub call_bad : {k : ℕ} → Bad k ≡ numbers_in (words (drop end line)) → NotANumber (skipped + (k + 2)) ≡ call_in desk skipped (words (drop from line))
-    call_bad b = sym (called ∙ rw (sym a, sym b))
+  module _ {w : Word} (a : Some w ≡ named calls (take (end - start) (drop start line))) where
+    pub call_bad : {e : BadWord} → Err e ≡ numbers_in (words (drop end line)) → NotANumber (skipped + e.word + 2) ≡ call_in desk skipped (words (drop from line))
+    call_bad {e} b = let k : skipped + e.word + 2 ≡ skipped + (e.word + 2) = omega arith in ap NotANumber k ∙ sym (called ∙ rw (sym a, sym b))
 
-    module _ {n : ℕ} (b : All n ≡ numbers_in (words (drop end line))) where
+    module _ {n : ℕ} (b : Ok n ≡ numbers_in (words (drop end line))) where
       pub call_asks : right_count (arity w) n ≡ true → Asks desk w n ≡ call_in desk skipped (words (drop from line))
       call_asks t = sym (called ∙ rw (sym a, sym b, t))
 
@@ -96,7 +89,7 @@ module _ {line : List ℕ} {from start end : ℕ} (f : WordAt line from start en
 
 -- the word behind `desk`, which is no number, or the desk's
 module _ (line : List ℕ) (from start : ℕ) (q : start ≡ from + spaces (drop from line)) where
-  pub no_number : start ≤ length line → Not ≡ number_at line start → NoCall ≡ desk_line (words (drop from line))
+  pub no_number : start ≤ length line → None ≡ number_at line start → NoCall ≡ desk_line (words (drop from line))
   no_number m a =
       let w : numeral (word_in (drop start line)) ≡ false = subst⁻¹ (λ x. told x (word_in (drop start line)) start) a (number_told line start) in
       elim (dec_le (length line) start) [
@@ -104,8 +97,8 @@ module _ (line : List ℕ) (from start : ℕ) (q : start ≡ from + spaces (drop
         | no h ↦ (let f : WordAt line from start (start + index_of 32 (drop start line)) = record { begins = q; within = omega arith; ends = refl } in sym (ap desk_line (split f) ∙ rw w refl))
       ]
 
-  module _ {v e : ℕ} (a : Value v e ≡ number_at line start) where
-    is : told (Value v e) (word_in (drop start line)) start
+  module _ {v e : ℕ} (a : Some (v, e) ≡ number_at line start) where
+    is : told (Some (v, e)) (word_in (drop start line)) start
     is = value_told line start v e a
 
     number : WordAt line from start e
@@ -133,7 +126,10 @@ module _ {line : List ℕ} {start end : ℕ} (f : WordAt line 0 start end) where
   asks_comment e = sym (ap asked_in (split f) ∙ rw (byte f, eq-eqb (get_or line start 0) 35 e))
 
   -- it is `desk`, or a call's own
-  module _ (t : Bool) (d : t ≡ names_desk (take (end - start) (drop start line))) where
+  module _ (t : Bool) (text : List ℕ) (s : text ≡ bytes_of "desk") (e : t ≡ pointwise eqb (take (end - start) (drop start line)) text) where
+    d : t ≡ names_desk (take (end - start) (drop start line))
+    d = e ∙ same_test (take (end - start) (drop start line)) text ∙ ap (same (take (end - start) (drop start line))) s
+
     pub asks : (get_or line start 0 ≡ 35 → ⊥) → {r : Request} → r ≡ cond t (desk_line (words (drop end line))) (call_in all_fourteen 0 (words (drop start line))) → r ≡ request_of line
     unfolding request_of
     asks plain c = c ∙ sym (ap asked_in (split f) ∙ rw (byte f, ne_eqb (get_or line start 0) 35 plain, word f, ← d, ← words_passed line 0 start f.begins, split f, word f))

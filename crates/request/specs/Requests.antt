@@ -1,25 +1,22 @@
 -- Which call a line asks for, and of which desk, in the words and the order of the desk's protocol.
 -- Assumes nothing.
-use Rattle.std.specs.Prelude.{◌≡◌, Bool, cond, List, [], ◌∷◌, map, ℕ, ◌+◌, ◌≤◌, eqb, length, get_or, take, drop}
+use Rattle.std.specs.Prelude.{◌≡◌, Bool, cond, List, [], ◌∷◌, map, ℕ, ◌+◌, ◌≤◌, eqb, length, get_or, take, drop, Option, Some, None, Result, Ok, Err}
 use Rattle.tariff.specs.Tariff.{all_fourteen}
 use Rattle.texts.specs.Texts.{bytes_of}
-use Rattle.lines.specs.declared.Numbers.{Numbers}
-use Rattle.lines.specs.declared.Numbers.TheVariants.{All, Bad}
+use Rattle.lines.specs.declared.NotANumber.{NotANumber as BadWord}
 use Rattle.lines.specs.Words.{words}
 use Rattle.lines.specs.Numerals.{value, numeral, numbers_in}
 use Rattle.naming.specs.declared.Word.{Word}
-use Rattle.naming.specs.declared.Named.{Named}
-use Rattle.naming.specs.declared.Named.TheVariants.{By, None}
 use Rattle.naming.specs.Naming.{calls, arity, right_count, RightCount, same, named}
 use Rattle.request.specs.declared.Request.{Request}
 use Rattle.request.specs.declared.Request.TheVariants.{Nothing, Asks, NoCall, Unknown, NotANumber, WrongCount}
 
 -- what a desk asks for, once its call's own word is known: "unknown call"; "word K is not a number", K counted over the words of the whole line,
 -- of which `skipped` stand before the call; and the count
-abbrev pub asked_by : (desk skipped : ℕ) → Named → Numbers → Request
+abbrev pub asked_by : (desk skipped : ℕ) → Option Word → Result ℕ BadWord → Request
 asked_by desk skipped None ns = Unknown
-asked_by desk skipped (By c) (Bad k) = NotANumber (skipped + (k + 2))
-asked_by desk skipped (By c) (All n) = cond (right_count (arity c) n) (Asks desk c n) (WrongCount c)
+asked_by desk skipped (Some c) (Err e) = NotANumber (skipped + (e.word + 2))
+asked_by desk skipped (Some c) (Ok n) = cond (right_count (arity c) n) (Asks desk c n) (WrongCount c)
 
 -- the words from a call's own on
 abbrev pub call_in : (desk skipped : ℕ) → List (List ℕ) → Request

@@ -6,13 +6,12 @@
 
 ghost use Rattle.std.specs.Prelude.{◌≡◌, ◌≤◌, length, drop};
 ghost use Rattle.lines.specs.Words.{words};
-ghost use Rattle.request.specs.Requests.{names_desk, call_in, desk_line, request_of, Standing, StandingFor};
+ghost use Rattle.request.specs.Requests.{call_in, desk_line, request_of, Standing, StandingFor};
 
-use lines::{Number, Numbers};
-use naming::{Named, Word};
+use naming::Word;
 use tariff::ALL_FOURTEEN;
 
-#[derive(Clone, Copy)]
+#[derive(Clone, Copy, Debug, PartialEq, Eq)]
 pub enum Request {
     // No word, or a comment.
     Nothing,
@@ -27,13 +26,6 @@ pub enum Request {
     WrongCount(Word),
 }
 
-// Whether a word says that a desk's number comes next.
-fn names_desk(word: &[u8]) -> bool
-    ensures { result ≡ names_desk word.now }
-{
-    word == b"desk".as_slice()
-}
-
 // What a desk asks for, its call standing from `from` on, behind so many words of the line.
 fn call_at(line: &[u8], from: usize, desk: u32, skipped: usize, numbers: &mut [u32]) -> Request
     requires from_in_bounds { (from ≤ length line.now) × (length line.now ≤ length numbers.old) }
@@ -46,20 +38,13 @@ fn call_at(line: &[u8], from: usize, desk: u32, skipped: usize, numbers: &mut [u
         return Request::NoCall;
     }
     let end = lines::word_end(line, start);
-    let name = naming::call_named(&line[start..end]);
-    let Named::By(word) = name else {
+    let Some(word) = naming::call_named(&line[start..end]) else {
         return Request::Unknown;
     };
-    let read = lines::numbers_from(line, end, numbers);
-    match read {
-        Numbers::Bad(k) => Request::NotANumber(skipped + (k + 2)),
-        Numbers::All(n) => {
-            if naming::right_count(word, n) {
-                Request::Asks(desk, word, n)
-            } else {
-                Request::WrongCount(word)
-            }
-        }
+    match lines::numbers_from(line, end, numbers) {
+        Ok(n) if naming::right_count(word, n) => Request::Asks(desk, word, n),
+        Ok(_) => Request::WrongCount(word),
+        Err(bad) => Request::NotANumber(skipped + bad.word + 2),
     }
 }
 
@@ -70,10 +55,9 @@ fn desk_line(line: &[u8], from: usize, numbers: &mut [u32]) -> Request
     ensures standing_for { StandingFor result (drop 2 (words (drop from line.now))) numbers.new }
 {
     let start = lines::word_start(line, from);
-    let read = lines::number_at(line, start);
-    match read {
-        Number::Value(desk, end) => call_at(line, end, desk, 2, numbers),
-        Number::Not => Request::NoCall,
+    match lines::number_at(line, start) {
+        Some((desk, end)) => call_at(line, end, desk, 2, numbers),
+        None => Request::NoCall,
     }
 }
 
@@ -84,15 +68,13 @@ pub fn request_of(line: &[u8], numbers: &mut [u32]) -> Request
     ensures standing { Standing result line.now numbers.new }
 {
     let start = lines::word_start(line, 0);
-    if start == line.len() {
-        return Request::Nothing;
-    }
-    if line[start] == b'#' {
+    if start == line.len() || line[start] == b'#' {
         return Request::Nothing;
     }
     let end = lines::word_end(line, start);
-    if names_desk(&line[start..end]) {
-        return desk_line(line, end, numbers);
+    if &line[start..end] == b"desk".as_slice() {
+        desk_line(line, end, numbers)
+    } else {
+        call_at(line, start, ALL_FOURTEEN, 0, numbers)
     }
-    call_at(line, start, ALL_FOURTEEN, 0, numbers)
 }

@@ -26,10 +26,8 @@ pub fn judged(p: Place, figures: Benchmarks) -> Place
     requires { Lawful figures × HoldsValid p }
     ensures { result ≡ under figures p }
 {
-    let state = p.state;
-    match state {
-        State::Empty => p,
-        State::Draft => p,
+    match p.state {
+        State::Empty | State::Draft => p,
         State::Marked => book::in_state(p, State::Draft),
         State::Open => {
             if p.directed {
@@ -50,11 +48,8 @@ pub fn all_judged(places: [Place; 32], figures: Benchmarks) -> [Place; 32]
     ensures { result ≡ map (under figures) places }
 {
     let mut next = places;
-    let mut i: usize = 0;
-    while i < 32 {
-        let p = next[i];
-        next[i] = judged(p, figures);
-        i += 1;
+    for i in 0..32 {
+        next[i] = judged(next[i], figures);
     }
     next
 }
@@ -64,12 +59,8 @@ fn fields_of(fields: &[u32]) -> [u32; FIELD_COUNT]
     requires { length fields.now ≡ field_count }
     ensures { result ≡ fields.now }
 {
-    let mut copy = [0u32; FIELD_COUNT];
-    let mut i: usize = 0;
-    while i < FIELD_COUNT {
-        copy[i] = fields[i];
-        i += 1;
-    }
+    let mut copy = [0; FIELD_COUNT];
+    copy.copy_from_slice(fields);
     copy
 }
 
@@ -107,17 +98,7 @@ pub fn judge(places: [Place; 32], fields: &[u32], period: Period) -> Judgement
 pub fn states_of(places: [Place; 32]) -> [Stood; 32]
     ensures { result ≡ map (λ p. stood_as p.state) places }
 {
-    let mut states = [Stood {
-        state: State::Empty,
-    }; 32];
-    let mut at: usize = 0;
-    while at < 32 {
-        let p = places[at];
-        let state = p.state;
-        states[at] = Stood { state };
-        at += 1;
-    }
-    states
+    places.map(|p| Stood { state: p.state })
 }
 
 // What is kept for UNDO of a book with this sheet, or none, and these places.

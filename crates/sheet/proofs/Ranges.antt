@@ -1,7 +1,7 @@
 -- The range of a field, by its number.
 -- Assumes nothing.
 use mathlib.Core.Path.{◌≡◌}
-use mathlib.Core.Bool.{Bool, true, false, ◌&&◌}
+use mathlib.Core.Bool.{Bool, true, ◌&&◌}
 use Prim.Native.Nat.{ℕ, ◌<◌, ◌≤◌}
 use native.Mathlib.Omega.{arith}
 use lib.Dec.{leb}
@@ -9,8 +9,7 @@ use lib.IntN.{ℤ, pos, negsuc, neg_ℤ}
 use lib.Signed.{mag, le_z}
 use borrow.Author.Tests.{le-leb, lt-leb, leb-true}
 use Rattle.laws.proofs.Every.{and_left, and_right}
-use Rattle.sheet.specs.declared.Range.{Range}
-use Rattle.sheet.specs.Sheet.{smncc_field, peak_field, signed, value_of, range_of, field_in_range, money, net_cost, ppm, initial_index, current_index, level, tenths, nothing}
+use Rattle.sheet.specs.Sheet.{smncc_field, peak_field, signed, value_of, range_of, field_in_range, money, ppm, initial_index, current_index, level, tenths}
 use Rattle.sheet.proofs.Words.{plain_value}
 
 module _ (k : ℕ) where
@@ -42,10 +41,6 @@ module _ (k : ℕ) where
       simp
       (lt-leb k 15 (omega arith), lt-leb k 19 (omega arith), lt-leb k 21 (omega arith), lt-leb k 28 (omega arith), lt-leb k 35 (omega arith), lt-leb k 36 l, le-leb k 92 (omega arith))
 
-  pub net_cost_at : k ≡ 36 → range_of k ≡ net_cost
-  unfolding range_of
-  net_cost_at e = rw e
-
   pub level_at : 93 ≤ k → k < 95 → range_of k ≡ level
   unfolding range_of
   level_at l h =
@@ -55,12 +50,6 @@ module _ (k : ℕ) where
   pub tenths_at : k ≡ peak_field → range_of k ≡ tenths
   unfolding range_of
   tenths_at e = rw e
-
-  pub nothing_past : 96 ≤ k → range_of k ≡ nothing
-  unfolding range_of
-  nothing_past l =
-      simp
-      (lt-leb k 15 (omega arith), lt-leb k 19 (omega arith), lt-leb k 21 (omega arith), lt-leb k 28 (omega arith), lt-leb k 35 (omega arith), lt-leb k 36 (omega arith), lt-leb k 92 (omega arith), lt-leb k 94 (omega arith), lt-leb k 95 l)
 
 -- what the test of a field but 36 says
 pub plain_bounds :
@@ -82,13 +71,3 @@ net_cost_mag word e =
     let low : Bool = le_z (neg_ℤ (pos 100000000)) (signed word) in
     let high : Bool = le_z (signed word) (pos 100000000) in
     mag_within (signed word) (and_left low high e) (and_right low high e)
-
--- the test made with a range that is the field's, of the number that the word stands for
-module _ (k word : ℕ) (r : Range) (value : ℤ) (e : r ≡ range_of k) (v : value ≡ value_of k word) where
-  pub in_range_yes : le_z r.low value ≡ true → le_z value r.high ≡ field_in_range k word
-  unfolding field_in_range
-  in_range_yes h = rw (← e, ← v, h)
-
-  pub in_range_no : le_z r.low value ≡ false → le_z r.low value ≡ field_in_range k word
-  unfolding field_in_range
-  in_range_no h = rw (← e, ← v, h)

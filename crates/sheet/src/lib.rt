@@ -17,13 +17,14 @@ pub const FIELD_COUNT: usize = 96;
 // The most of a peak share, as the end of a range.
 const PEAK_MOST: i64 = WHOLE_SHARE as i64;
 
-#[derive(Clone, Copy)]
+#[derive(Debug, Clone, Copy, PartialEq, Eq)]
 pub struct Range {
     pub low: i64,
     pub high: i64,
 }
 
 // The range of a field follows from its number. Past 95 there is no field, and no value is allowed.
+#[tactic(auto, using(std::proofs::lemmas::Bool::Decides::nat_tests), unfolding(crate::specs::Sheet::range_of))]
 pub fn range_of(number: usize) -> Range
     ensures { result ≡ range_of number }
 {
@@ -61,22 +62,24 @@ pub fn range_of(number: usize) -> Range
 }
 
 // The number that a word stands for: two's complement in field 36, the word itself in every other.
+#[tactic(auto, using(std::proofs::lemmas::Bool::Decides::nat_tests), unfolding(crate::specs::Sheet::value_of, crate::specs::Sheet::signed))]
 fn value_of(number: usize, word: u32) -> i64
     ensures { result ≡ value_of number word }
 {
     if number == 36 && word >= 2_147_483_648 {
-        word as i64 - 4_294_967_296
+        i64::from(word) - 4_294_967_296
     } else {
-        word as i64
+        i64::from(word)
     }
 }
 
+#[tactic(auto, unfolding(crate::specs::Sheet::field_in_range))]
 fn field_in_range(number: usize, word: u32) -> bool
     ensures { result ≡ field_in_range number word }
 {
     let r = range_of(number);
     let value = value_of(number, word);
-    r.low <= value && value <= r.high
+    (r.low..=r.high).contains(&value)
 }
 
 // Whether each of the 96 fields is in its range.
@@ -84,29 +87,18 @@ pub fn fields_in_range(s: &[u32]) -> bool
     requires { length s.now ≡ field_count }
     ensures { result ≡ fields_in_range s.now }
 {
-    let mut i: usize = 0;
-    while i < FIELD_COUNT {
-        if !field_in_range(i, s[i]) {
-            return false;
-        }
-        i += 1;
-    }
-    true
+    s.iter()
+        .enumerate()
+        .all(|(k, word)| field_in_range(k, *word))
 }
 
 // n / d to the nearest whole, halves up.
+#[tactic(auto, unfolding(crate::specs::Sheet::round))]
 pub fn rounded(n: u64, d: u64) -> u64
     requires { (n ≤ 1000000000000000000) × (1 ≤ d) × (d ≤ 1000000000) }
     ensures { result ≡ round n d }
 {
     (2 * n + d) / (2 * d)
-}
-
-// The same number in 64 bits.
-pub fn wide(x: u32) -> u64
-    ensures { result ≡ x }
-{
-    x as u64
 }
 
 // SMNCC, the number that field 36 stands for.
@@ -123,8 +115,8 @@ fn indexed_term(part: &[u32], baseline: usize, current: usize, initial: usize) -
     ensures { result ≡ indexed part.now baseline current initial }
 {
     rounded(
-        wide(part[baseline]) * wide(part[current]),
-        wide(part[initial]),
+        u64::from(part[baseline]) * u64::from(part[current]),
+        u64::from(part[initial]),
     )
 }
 
@@ -164,6 +156,7 @@ pub fn paac_term(part: &[u32], p: usize) -> u64
     indexed_term(part, 20 + p, 31, 24)
 }
 
+#[tactic(auto, using(std::proofs::lemmas::Bool::Decides::nat_tests), unfolding(crate::specs::Sheet::four_fit))]
 fn four_fit(part: &[u32], f: usize) -> bool
     requires { Ranged common_count part.now × (f < 4) }
     ensures { result ≡ four_fit part.now f }
@@ -174,6 +167,7 @@ fn four_fit(part: &[u32], f: usize) -> bool
         && oc_term(part, f) <= 100_000_000
 }
 
+#[tactic(auto, unfolding(crate::specs::Sheet::paac_fits))]
 fn paac_fits(part: &[u32], p: usize) -> bool
     requires { Ranged common_count part.now × (p < 2) }
     ensures { result ≡ paac_fits part.now p }
@@ -186,12 +180,5 @@ pub fn terms_fit(part: &[u32]) -> bool
     requires { Ranged common_count part.now }
     ensures { result ≡ terms_fit part.now }
 {
-    let mut f: usize = 0;
-    while f < 4 {
-        if !four_fit(part, f) {
-            return false;
-        }
-        f += 1;
-    }
-    paac_fits(part, 0) && paac_fits(part, 1)
+    (0..4).all(|f| four_fit(part, f)) && paac_fits(part, 0) && paac_fits(part, 1)
 }

@@ -2,22 +2,24 @@
 // their answers, all of a desk with all fourteen regions. 0: SET with 32 open tariffs. 1: OPEN of 28 cells and 4 tiers, with the CLOSE that frees it. 2: OPEN that is over
 // the cap in the last cell. 3: QUOTE of 12 months. 4: BENCHMARK. 5: TRIAL with 32 open tariffs. 6: as 1, the book handed to each call
 // and back. 7: as 0, each SET taken back by UNDO. 8: accounts of 12 months, in rebate runs over 10,000. Any other number: each of the nine in turn.
-// Promise: each run is safe and ends, and every book that is handed to a call is one that some list of calls leaves.
+// Promise: each run is safe and ends, and every book that is handed to a call is one that some list of calls leaves: the invariant of `Desk`.
 // tests/speed has the twin of this program on another implementation, and the runner that times both.
-#![tactic(auto)]
+#![tactic(auto, using(book::proofs::Reached::does_reachable, book::proofs::Reached::fresh_reachable))]
 
 ghost use Rattle.std.specs.Prelude.{◌≡◌, ◌<◌, ◌≤◌, length};
 ghost use Rattle.sheet.specs.Sheet.{field_count};
+ghost use Rattle.book.specs.declared.Book.{Book};
 ghost use Rattle.book.specs.Book.{Reachable};
 
-use book::{Book, Reply};
+use book::{Book, Reply, Settled};
 use calendar::Period;
 use codes::CodeAct;
 use queries::Told;
 use rebates::{Account, Run};
 use sheet::FIELD_COUNT;
 use std::env::Env;
-use std::io;
+use std::marker::Model;
+use std::{array, io};
 use tariff::{ALL_FOURTEEN, RECORD_LENGTH};
 
 // The reference sheet, with network costs lower by 1,000,000 in the last region.
@@ -41,62 +43,186 @@ const SHEET: [u32; FIELD_COUNT] = [
     580, // the peak share
 ];
 
-// The generator: the next of its states, which have 32 bits.
-fn next(x: u64) -> u64 {
-    (x % 4_294_967_296 * 1_664_525 + 1_013_904_223) % 4_294_967_296
+// How many accounts a rebate run is over.
+const ACCOUNTS: usize = 10_000;
+
+// The account that the first is drawn from; each of the others is drawn from the one before.
+const FIRST_ACCOUNT: Account = Account {
+    code: 0,
+    region: 0,
+    method: 0,
+    count: 12,
+    months: [1_000; 12],
+    rebate: 0,
+};
+
+// The generator: a state of 32 bits, from whose upper 16 the numbers are drawn.
+#[derive(Drop)]
+struct Generator(u32);
+
+impl Generator {
+    // Goes on to the next state.
+    fn next(&mut self) {
+        self.0 = self.0.wrapping_mul(1_664_525).wrapping_add(1_013_904_223);
+    }
+
+    // A number below n.
+    fn below(&self, n: u32) -> u32
+        requires { 1 ≤ n }
+        ensures { result < n }
+    {
+        self.0 / 65_536 % n
+    }
 }
 
-// A number below n, from a state's upper bits.
-fn drawn(x: u64, n: u32) -> u32
-    requires { 1 ≤ n }
-    ensures { result < n }
-{
-    (x / 65_536 % (n as u64)) as u32
-}
+// The checksum of the answers.
+#[derive(Drop)]
+struct Checksum(u64);
 
-// One number more in a checksum.
-fn fold(sum: u64, x: u64) -> u64 {
-    std::num::wrapping_add_u64((sum << 7) | (sum >> 57), x)
-}
+impl Checksum {
+    // One number more.
+    fn fold(&mut self, x: u64) {
+        self.0 = self.0.rotate_left(7).wrapping_add(x);
+    }
 
-// A number of 32 bits as one of 64.
-fn wide(x: u32) -> u64 {
-    x as u64
-}
+    fn fold_reply(&mut self, reply: Reply) {
+        match reply {
+            Reply::Accepted => self.fold(0),
+            Reply::Cells(cells) => self.fold(100 + u64::from(cells)),
+            Reply::Refused(n) => self.fold(u64::from(n)),
+            Reply::Over(region, method, months, excess) => {
+                self.fold(u64::from(region));
+                self.fold(u64::from(method));
+                self.fold(u64::from(months));
+                self.fold(excess);
+            }
+        }
+    }
 
-fn fold_reply(sum: u64, reply: Reply) -> u64 {
-    match reply {
-        Reply::Accepted => fold(sum, 0),
-        Reply::Cells(cells) => fold(sum, 100 + cells as u64),
-        Reply::Refused(n) => fold(sum, n as u64),
-        Reply::Over(region, method, months, excess) => {
-            let cell = fold(fold(sum, region as u64), method as u64);
-            fold(fold(cell, months as u64), excess)
+    fn fold_told(&mut self, told: Told) {
+        match told {
+            Told::Refused(n) => self.fold(u64::from(n)),
+            Told::Benchmark(mills) => self.fold(mills),
+            Told::Maximum {
+                number,
+                denominator,
+            } => {
+                self.fold(number);
+                self.fold(denominator);
+            }
+            Told::Quote { charge, maximum } => {
+                self.fold(charge);
+                self.fold(maximum);
+            }
+            Told::Falling(codes) => self.fold(100 + u64::from(codes)),
+        }
+    }
+
+    fn fold_run(&mut self, answer: Run) {
+        match answer {
+            Run::Accepted(total) => self.fold(total),
+            Run::Refused { number, place } => {
+                self.fold(u64::from(number));
+                self.fold(place as u64);
+            }
         }
     }
 }
 
-fn fold_told(sum: u64, told: Told) -> u64 {
-    match told {
-        Told::Refused(n) => fold(sum, n as u64),
-        Told::Benchmark(mills) => fold(sum, mills),
-        Told::Maximum {
-            number,
-            denominator,
-        } => fold(fold(sum, number), denominator),
-        Told::Quote { charge, maximum } => fold(fold(sum, charge), maximum),
-        Told::Falling(codes) => fold(sum, 100 + codes as u64),
+// A desk with all fourteen regions, and the book that it works on, which some list of calls leaves.
+#[derive(Drop)]
+struct Desk {
+    book: Book,
+}
+
+impl Model for Desk {
+    ghost Value = { Book };
+
+    ghost view = { λ d. d.book };
+
+    ghost invariant = { λ d. Reachable d.book };
+}
+
+impl Desk {
+    // Inlined: as a function of its own it would clear the room for the answer, a whole book, before each call.
+    #[inline(always)]
+    fn set(&mut self, sheet: &[u32; FIELD_COUNT], period: Period) -> Reply {
+        let did = setting::set(self.book, ALL_FOURTEEN, sheet, period);
+        self.book = did.book;
+        did.reply
+    }
+
+    // SET, and the UNDO that takes it back, which is handed the book that SET left.
+    fn set_and_undo(&mut self, sheet: &[u32; FIELD_COUNT], period: Period) -> (Reply, Reply) {
+        let mut did = setting::set(self.book, ALL_FOURTEEN, sheet, period);
+        let reply = did.reply;
+        did = undo::undo(did.book, ALL_FOURTEEN);
+        self.book = did.book;
+        (reply, did.reply)
+    }
+
+    fn put(&mut self, code: u32, record: &[u32; RECORD_LENGTH]) {
+        let did = putting::put(self.book, ALL_FOURTEEN, code, record);
+        self.book = did.book;
+    }
+
+    fn direct(&mut self, code: u32) {
+        let did = directing::direct(self.book, ALL_FOURTEEN, code);
+        self.book = did.book;
+    }
+
+    // A call on a code, the book handed to it and back.
+    fn act(&mut self, code: u32, act: CodeAct) -> Reply {
+        let did = codes::act_on(self.book, ALL_FOURTEEN, code, act);
+        self.book = did.book;
+        did.reply
+    }
+
+    // The same on the one book: the place of the code is settled, and stored again.
+    fn settle(&mut self, code: u32, act: CodeAct) -> Settled {
+        let at = checks::index_of(code);
+        let did = codes::settle(
+            ALL_FOURTEEN,
+            act,
+            code,
+            self.book.places[at],
+            self.book.loaded,
+            self.book.benchmarks,
+        );
+        self.book.places[at] = did.place;
+        if book::ends_undo(did.reply, self.book.kept.any) {
+            self.book.kept = book::nothing_kept();
+        }
+        did
+    }
+
+    fn quote(&self, account: &Account) -> Told {
+        let at = checks::index_of(account.code);
+        quoting::quote_at(
+            ALL_FOURTEEN,
+            account.code,
+            self.book.places[at],
+            self.book.loaded,
+            self.book.benchmarks,
+            account.region,
+            account.method,
+            &account.months,
+        )
+    }
+
+    fn benchmark(&self, region: u32, arrangement: u32, method: u32, level: u32) -> Told {
+        queries::benchmark(self.book, ALL_FOURTEEN, region, arrangement, method, level)
+    }
+
+    fn trial(&self, sheet: &[u32; FIELD_COUNT], period: Period) -> Told {
+        trial::trial(self.book, ALL_FOURTEEN, sheet, period)
     }
 }
 
 // A record of its first 13 numbers, with nothing added in any region.
 fn record_of(numbers: [u32; 13]) -> [u32; RECORD_LENGTH] {
-    let mut whole = [0u32; RECORD_LENGTH];
-    let mut i: usize = 0;
-    while i < 13 {
-        whole[i] = numbers[i];
-        i += 1;
-    }
+    let mut whole = [0; RECORD_LENGTH];
+    whole[..13].copy_from_slice(&numbers);
     whole
 }
 
@@ -126,8 +252,7 @@ fn tiered(k: u32, standing: u32, more: u32) -> [u32; RECORD_LENGTH]
 fn mixed(k: u32, more: u32) -> [u32; RECORD_LENGTH]
     requires { (k < 32) × (more ≤ 2000) }
 {
-    let kind = k % 4;
-    match kind {
+    match k % 4 {
         0 => tiered(k, 10_000, more),
         1 => record_of([
             1,
@@ -177,108 +302,85 @@ fn mixed(k: u32, more: u32) -> [u32; RECORD_LENGTH]
     }
 }
 
-// A book with the sheet, for twelve months.
-fn with_sheet() -> Book
-    ensures { Reachable result }
-{
-    let sheet = SHEET;
-    let period = Period {
-        year: 2023,
-        month: 10,
-        months: 12,
+// A desk with the sheet, for twelve months.
+fn with_sheet() -> Desk {
+    let mut desk = Desk {
+        book: book::fresh_book(),
     };
-    let did = setting::set(book::fresh_book(), ALL_FOURTEEN, &sheet, period);
-    did.book
+    desk.set(
+        &SHEET,
+        Period {
+            year: 2023,
+            month: 10,
+            months: 12,
+        },
+    );
+    desk
 }
 
-// A book with the sheet and 32 drafts of four tiers.
-fn with_drafts(standing: u32) -> Book
+// With 32 drafts of four tiers.
+fn with_drafts(standing: u32) -> Desk
     requires { standing ≤ 22000 }
-    ensures { Reachable result }
 {
-    let mut b = with_sheet();
-    let mut k: u32 = 0;
-    while k < 32 {
-        let record = tiered(k, standing, 0);
-        let did = putting::put(b, ALL_FOURTEEN, k + 1, &record);
-        let after = did.book;
-        b = after;
-        k += 1;
+    let mut desk = with_sheet();
+    for k in 0..32 {
+        desk.put(k + 1, &tiered(k, standing, 0));
     }
-    b
+    desk
 }
 
-// A book with the sheet and 32 open tariffs of all kinds.
-fn with_open() -> Book
-    ensures { Reachable result }
-{
-    let mut b = with_sheet();
-    let mut k: u32 = 0;
-    while k < 32 {
-        let record = mixed(k, 0);
-        let put = putting::put(b, ALL_FOURTEEN, k + 1, &record);
-        let draft = put.book;
-        let did = codes::act_on(draft, ALL_FOURTEEN, k + 1, CodeAct::Open);
-        let after = did.book;
-        b = after;
-        k += 1;
+// With 32 open tariffs of all kinds.
+fn with_open() -> Desk {
+    let mut desk = with_sheet();
+    for k in 0..32 {
+        desk.put(k + 1, &mixed(k, 0));
+        desk.act(k + 1, CodeAct::Open);
     }
-    b
+    desk
 }
 
-// A book with the sheet and 32 open tariffs of all kinds under directions, half of them above the cap.
-fn with_directed() -> Book
-    ensures { Reachable result }
-{
-    let mut b = with_sheet();
-    let mut k: u32 = 0;
-    while k < 32 {
-        let record = mixed(k, k / 4 % 2 * 2_000);
-        let put = putting::put(b, ALL_FOURTEEN, k + 1, &record);
-        let draft = put.book;
-        let given = directing::direct(draft, ALL_FOURTEEN, k + 1);
-        let directed = given.book;
-        let did = codes::act_on(directed, ALL_FOURTEEN, k + 1, CodeAct::Open);
-        let after = did.book;
-        b = after;
-        k += 1;
+// With 32 open tariffs of all kinds under directions, half of them above the cap.
+fn with_directed() -> Desk {
+    let mut desk = with_sheet();
+    for k in 0..32 {
+        desk.put(k + 1, &mixed(k, k / 4 % 2 * 2_000));
+        desk.direct(k + 1);
+        desk.act(k + 1, CodeAct::Open);
     }
-    b
+    desk
 }
 
-// What a book holds: the answers of CLOSE and of some BENCHMARKs.
-fn fold_book(b: Book, sum: u64) -> u64
-    requires { Reachable b }
+// The checksum of n calls. Each draws its arguments and folds its answer.
+fn repeated<F: FnMut(&mut Generator, &mut Checksum)>(n: u64, mut call: F) -> Checksum
+    requires { F.IsAlwaysCallable call }
 {
-    let mut total = sum;
-    let mut k: u32 = 0;
-    while k < 32 {
-        let did = codes::act_on(b, ALL_FOURTEEN, k + 1, CodeAct::Close);
-        let reply = did.reply;
-        let told = queries::benchmark(b, ALL_FOURTEEN, k % 14, k % 2, k / 2 % 2, k / 4 % 2);
-        total = fold_told(fold_reply(total, reply), told);
-        k += 1;
+    let mut x = Generator(1);
+    let mut sum = Checksum(0);
+    for _ in 0..n {
+        call(&mut x, &mut sum);
     }
-    total
+    sum
 }
 
-// Draws one of the sheet's network costs anew, and its current DFI; the generator's state is then the one returned.
-fn redraw(sheet: &mut [u32; FIELD_COUNT], base: &[u32; FIELD_COUNT], x: u64) -> u64
-    requires { length sheet.old ≡ field_count }
+// With what the book holds: the answers of CLOSE and of some BENCHMARKs.
+fn fold_book(mut sum: Checksum, mut desk: Desk) -> u64 {
+    for k in 0..32 {
+        sum.fold_reply(desk.act(k + 1, CodeAct::Close));
+        sum.fold_told(desk.benchmark(k % 14, k % 2, k / 2 % 2, k / 4 % 2));
+    }
+    sum.0
+}
+
+// Draws one of the sheet's network costs and its current DFI anew; the period that the sheet is for.
+fn redraw(sheet: &mut [u32; FIELD_COUNT], x: &mut Generator) -> Period
     ensures { length sheet.new ≡ field_count }
 {
-    let first = next(x);
-    let at = 37 + drawn(first, 56) as usize;
-    let second = next(first);
-    let more = drawn(second, 65_536);
-    sheet[at] = std::num::wrapping_add_u32(base[at], more);
+    x.next();
+    let at = 37 + x.below(56) as usize;
+    x.next();
+    let more = x.below(65_536);
+    sheet[at] = SHEET[at].wrapping_add(more);
     sheet[29] = 1_100 + more % 16;
-    second
-}
-
-// The period of the sheet that the state was drawn with.
-fn drawn_period(x: u64) -> Period {
-    let more = drawn(x, 65_536);
     Period {
         year: 2018 + more % 80,
         month: 1 + more % 12,
@@ -286,260 +388,128 @@ fn drawn_period(x: u64) -> Period {
     }
 }
 
+// Draws an account's tariff and cell anew, and one of its months.
+fn redraw_account(account: &mut Account, x: &mut Generator) {
+    x.next();
+    let month = x.below(12) as usize;
+    account.code = 1 + x.below(32);
+    account.region = x.below(14);
+    x.next();
+    account.months[month] = x.below(10_001);
+    account.method = x.below(2);
+}
+
 fn sets(n: u64) -> u64 {
-    let base = SHEET;
+    let mut desk = with_open();
     let mut sheet = SHEET;
-    let mut b = with_open();
-    let mut x: u64 = 1;
-    let mut sum: u64 = 0;
-    let mut i: u64 = 0;
-    while i < n {
-        x = redraw(&mut sheet, &base, x);
-        let did = setting::set(b, ALL_FOURTEEN, &sheet, drawn_period(x));
-        let reply = did.reply;
-        let after = did.book;
-        b = after;
-        sum = fold_reply(sum, reply);
-        i += 1;
-    }
-    fold_book(b, sum)
-}
-
-// On the one book that the loop holds: each call settles the place of its code, which is stored again.
-fn opens(n: u64) -> u64 {
-    let mut b = with_drafts(10_000);
-    let mut x: u64 = 1;
-    let mut sum: u64 = 0;
-    let mut i: u64 = 0;
-    while i < n {
-        x = next(x);
-        let code = 1 + drawn(x, 32);
-        let at = checks::index_of(code);
-        let draft = b.places[at];
-        let figures = b.benchmarks;
-        let did = codes::settle(ALL_FOURTEEN, CodeAct::Open, code, draft, b.loaded, figures);
-        let reply = did.reply;
-        let opened = did.place;
-        b.places[at] = opened;
-        if book::ends_undo(reply, b.kept.any) {
-            b.kept = book::nothing_kept();
-        }
-        let again = b.places[at];
-        let undid = codes::settle(ALL_FOURTEEN, CodeAct::Close, code, again, b.loaded, figures);
-        let answer = undid.reply;
-        let closed = undid.place;
-        b.places[at] = closed;
-        if book::ends_undo(answer, b.kept.any) {
-            b.kept = book::nothing_kept();
-        }
-        sum = fold_reply(fold_reply(sum, reply), answer);
-        i += 1;
-    }
-    sum
-}
-
-fn overs(n: u64) -> u64 {
-    let mut b = with_drafts(22_000);
-    let mut x: u64 = 1;
-    let mut sum: u64 = 0;
-    let mut i: u64 = 0;
-    while i < n {
-        x = next(x);
-        let code = 1 + drawn(x, 32);
-        let at = checks::index_of(code);
-        let draft = b.places[at];
-        let figures = b.benchmarks;
-        let did = codes::settle(ALL_FOURTEEN, CodeAct::Open, code, draft, b.loaded, figures);
-        let reply = did.reply;
-        let months = did.months;
-        let place = did.place;
-        b.places[at] = place;
-        if book::ends_undo(reply, b.kept.any) {
-            b.kept = book::nothing_kept();
-        }
-        sum = fold_reply(sum, reply);
-        sum = fold(fold(sum, wide(months[0])), wide(months[11]));
-        i += 1;
-    }
-    sum
-}
-
-// OPEN and CLOSE again, the book handed to each call and back.
-fn handed(n: u64) -> u64 {
-    let mut b = with_drafts(10_000);
-    let mut x: u64 = 1;
-    let mut sum: u64 = 0;
-    let mut i: u64 = 0;
-    while i < n {
-        x = next(x);
-        let code = 1 + drawn(x, 32);
-        let did = codes::act_on(b, ALL_FOURTEEN, code, CodeAct::Open);
-        let reply = did.reply;
-        let opened = did.book;
-        let undid = codes::act_on(opened, ALL_FOURTEEN, code, CodeAct::Close);
-        let answer = undid.reply;
-        let after = undid.book;
-        b = after;
-        sum = fold_reply(fold_reply(sum, reply), answer);
-        i += 1;
-    }
-    sum
+    let sum = repeated(n, |x, sum| {
+        let period = redraw(&mut sheet, x);
+        sum.fold_reply(desk.set(&sheet, period));
+    });
+    fold_book(sum, desk)
 }
 
 // Each SET is taken back.
 fn undos(n: u64) -> u64 {
-    let base = SHEET;
+    let mut desk = with_open();
     let mut sheet = SHEET;
-    let mut b = with_open();
-    let mut x: u64 = 1;
-    let mut sum: u64 = 0;
-    let mut i: u64 = 0;
-    while i < n {
-        x = redraw(&mut sheet, &base, x);
-        let did = setting::set(b, ALL_FOURTEEN, &sheet, drawn_period(x));
-        let reply = did.reply;
-        let set = did.book;
-        let undid = undo::undo(set, ALL_FOURTEEN);
-        let answer = undid.reply;
-        let after = undid.book;
-        b = after;
-        sum = fold_reply(fold_reply(sum, reply), answer);
-        i += 1;
-    }
-    fold_book(b, sum)
+    let sum = repeated(n, |x, sum| {
+        let period = redraw(&mut sheet, x);
+        let (set, undone) = desk.set_and_undo(&sheet, period);
+        sum.fold_reply(set);
+        sum.fold_reply(undone);
+    });
+    fold_book(sum, desk)
+}
+
+// On the one book: each call settles the place of its code, which is stored again.
+fn opens(n: u64) -> u64 {
+    let mut desk = with_drafts(10_000);
+    let sum = repeated(n, |x, sum| {
+        x.next();
+        let code = 1 + x.below(32);
+        sum.fold_reply(desk.settle(code, CodeAct::Open).reply);
+        sum.fold_reply(desk.settle(code, CodeAct::Close).reply);
+    });
+    sum.0
+}
+
+// OPEN and CLOSE again, the book handed to each call and back.
+fn handed(n: u64) -> u64 {
+    let mut desk = with_drafts(10_000);
+    let sum = repeated(n, |x, sum| {
+        x.next();
+        let code = 1 + x.below(32);
+        sum.fold_reply(desk.act(code, CodeAct::Open));
+        sum.fold_reply(desk.act(code, CodeAct::Close));
+    });
+    sum.0
+}
+
+fn overs(n: u64) -> u64 {
+    let mut desk = with_drafts(22_000);
+    let sum = repeated(n, |x, sum| {
+        x.next();
+        let did = desk.settle(1 + x.below(32), CodeAct::Open);
+        sum.fold_reply(did.reply);
+        sum.fold(u64::from(did.months[0]));
+        sum.fold(u64::from(did.months[11]));
+    });
+    sum.0
 }
 
 fn quotes(n: u64) -> u64 {
-    let b = with_open();
-    let mut months = [1_000u32; 12];
-    let mut x: u64 = 1;
-    let mut sum: u64 = 0;
-    let mut i: u64 = 0;
-    while i < n {
-        x = next(x);
-        let month = drawn(x, 12) as usize;
-        let code = 1 + drawn(x, 32);
-        let region = drawn(x, 14);
-        x = next(x);
-        months[month] = drawn(x, 10_001);
-        let at = checks::index_of(code);
-        let p = b.places[at];
-        let figures = b.benchmarks;
-        let method = drawn(x, 2);
-        let told = quoting::quote_at(
-            ALL_FOURTEEN,
-            code,
-            p,
-            b.loaded,
-            figures,
-            region,
-            method,
-            &months,
-        );
-        sum = fold_told(sum, told);
-        i += 1;
-    }
-    sum
+    let desk = with_open();
+    let mut account = FIRST_ACCOUNT;
+    let sum = repeated(n, |x, sum| {
+        redraw_account(&mut account, x);
+        sum.fold_told(desk.quote(&account));
+    });
+    sum.0
 }
 
 fn benchmarks(n: u64) -> u64 {
-    let b = with_open();
-    let mut x: u64 = 1;
-    let mut sum: u64 = 0;
-    let mut i: u64 = 0;
-    while i < n {
-        x = next(x);
-        let place = drawn(x, 112);
-        let told = queries::benchmark(
-            b,
-            ALL_FOURTEEN,
-            place / 8,
-            place / 4 % 2,
-            place / 2 % 2,
-            place % 2,
-        );
-        sum = fold_told(sum, told);
-        i += 1;
-    }
-    sum
+    let desk = with_open();
+    let sum = repeated(n, |x, sum| {
+        x.next();
+        let place = x.below(112);
+        sum.fold_told(desk.benchmark(place / 8, place / 4 % 2, place / 2 % 2, place % 2));
+    });
+    sum.0
 }
 
 fn trials(n: u64) -> u64 {
-    let base = SHEET;
+    let desk = with_open();
     let mut sheet = SHEET;
-    let b = with_open();
-    let mut x: u64 = 1;
-    let mut sum: u64 = 0;
-    let mut i: u64 = 0;
-    while i < n {
-        x = redraw(&mut sheet, &base, x);
-        let told = trial::trial(b, ALL_FOURTEEN, &sheet, drawn_period(x));
-        sum = fold_told(sum, told);
-        i += 1;
-    }
-    sum
+    let sum = repeated(n, |x, sum| {
+        let period = redraw(&mut sheet, x);
+        sum.fold_told(desk.trial(&sheet, period));
+    });
+    sum.0
 }
 
 // Accounts of the 32 tariffs, in any cell, with twelve months.
-fn drawn_accounts() -> [Account; 10_000] {
-    let mut list = [Account {
-        code: 0,
-        region: 0,
-        method: 0,
-        count: 12,
-        months: [0; 12],
-        rebate: 0,
-    }; 10_000];
-    let mut months = [1_000u32; 12];
-    let mut x: u64 = 1;
-    let mut i: usize = 0;
-    while i < 10_000 {
-        x = next(x);
-        let month = drawn(x, 12) as usize;
-        let code = 1 + drawn(x, 32);
-        let region = drawn(x, 14);
-        x = next(x);
-        months[month] = drawn(x, 10_001);
-        list[i] = Account {
-            code,
-            region,
-            method: drawn(x, 2),
-            count: 12,
-            months,
-            rebate: 0,
-        };
-        i += 1;
-    }
-    list
+fn drawn_accounts() -> [Account; ACCOUNTS] {
+    let mut account = FIRST_ACCOUNT;
+    let mut x = Generator(1);
+    array::from_fn(|_| {
+        redraw_account(&mut account, &mut x);
+        account
+    })
 }
 
-fn fold_run(sum: u64, answer: Run) -> u64 {
-    match answer {
-        Run::Accepted(total) => fold(sum, total),
-        Run::Refused { number, place } => fold(fold(sum, number as u64), place as u64),
-    }
-}
-
-// Runs over 10,000 accounts; the last may be over more than is left.
+// Runs over all accounts; the last may be over more than is left.
 fn repays(n: u64) -> u64 {
-    let b = with_directed();
+    let desk = with_directed();
     let mut list = drawn_accounts();
-    let mut sum: u64 = 0;
-    let mut left = n;
-    while left > 0 {
-        let ran = accounts::run_many(b, ALL_FOURTEEN, list, 10_000);
-        let answer = ran.answer;
-        let written = ran.accounts;
-        list = written;
-        sum = fold_run(sum, answer);
-        if left < 10_000 {
-            left = 0;
-        } else {
-            left -= 10_000;
-        }
+    let mut sum = Checksum(0);
+    for _ in 0..n.div_ceil(ACCOUNTS as u64) {
+        let ran = accounts::run_many(desk.book, ALL_FOURTEEN, list, ACCOUNTS);
+        list = ran.accounts;
+        sum.fold_run(ran.answer);
     }
-    let last = list[9_999];
-    fold(sum, last.rebate)
+    sum.fold(list[ACCOUNTS - 1].rebate);
+    sum.0
 }
 
 // The checksum of one measurement.
@@ -564,24 +534,16 @@ fn print(rt: &impl Print, sum: u64) -> io::Result<()> {
 fn digit(c: u8) -> u64
     ensures { result ≤ 9 }
 {
-    if c < 48 {
-        return 0;
+    match c {
+        b'0'..=b'9' => u64::from(c - b'0'),
+        _ => 0,
     }
-    if 57 < c {
-        return 0;
-    }
-    (c - 48) as u64
 }
 
 // The last twelve digits of a number in text.
 fn number(text: &[u8]) -> u64 {
-    let mut n: u64 = 0;
-    let mut i: usize = 0;
-    while i < text.len() {
-        n = (10 * n + digit(text[i])) % 1_000_000_000_000;
-        i += 1;
-    }
-    n
+    text.iter()
+        .fold(0, |n, c| n % 100_000_000_000 * 10 + digit(*c))
 }
 
 // The number that stands as an argument, 0 where there is none or it is too long.

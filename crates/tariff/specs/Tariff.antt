@@ -1,13 +1,15 @@
 -- "A tariff" of document 01: the record and refusal 8; the shares of kind 3 as document 02's M-103 has them, and the standing charges by
 -- region of M-104.
 -- Assumes nothing.
-use Rattle.std.specs.Prelude.{Bool, false, cond, ◌&&◌, ◌||◌, List, [], ◌∷◌, ℕ, ◌+◌, ◌-◌, leb, eqb, length, get_or, take}
+use Rattle.std.specs.Prelude.{Bool, false, cond, ◌&&◌, ◌||◌, List, [], ◌∷◌, ℕ, ◌+◌, ◌-◌, leb, eqb, length, get_or, take, Option, Some, None}
 use Rattle.laws.specs.Notions.{every, sum, bit}
 use Rattle.refusal.specs.declared.Check.{Check}
 use Rattle.refusal.specs.declared.Check.TheVariants.{Pass}
 use Rattle.refusal.specs.Checks.{unless}
 use Rattle.shares.specs.Shares.{whole_share}
 use Rattle.fours.specs.Fours.{within, zero_from, rising}
+use Rattle.tariff.specs.declared.Kind.{Kind}
+use Rattle.tariff.specs.declared.Kind.TheVariants.{SingleRegister, Economy7, MultiRegister}
 use Rattle.tariff.specs.declared.Tariff.{Tariff}
 
 -- the most of a rate, of a standing charge and of a step
@@ -27,6 +29,10 @@ all_fourteen = 16383
 -- M-104: "A tariff becomes 27 numbers"
 abbrev pub record_length : ℕ
 record_length = 27
+
+-- "Kind 1, single-register .. Kind 2, Economy 7 .. Kind 3, other multi-register"
+abbrev pub kind_of : ℕ → Option Kind
+kind_of n = cond (eqb n 1) (Some SingleRegister) (cond (eqb n 2) (Some Economy7) (cond (eqb n 3) (Some MultiRegister) None))
 
 -- "0 kind; 1 n; 2 standing charge per day; 3 regions; 4 methods; 5-8 rates; 9-12 steps", and M-104: "fields 13 to 26 are added to field 2
 -- for regions 0 to 13"

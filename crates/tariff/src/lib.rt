@@ -1,12 +1,12 @@
 // A tariff: its record of 27 numbers, the standing charge of each region, and refusal 8.
 // Promise: `check` is refusal 8, "not such a record, its length included", for any list of numbers; `standing_in` is what a valid tariff
-// charges a day in a region. What the layer above may use: `Tariff`, `tariff_of`, `standing_in`, `valid_tariff` and `record_check` of
+// charges a day in a region. What the layer above may use: `Tariff`, `Kind`, `tariff_of`, `standing_in`, `valid_tariff` and `record_check` of
 // specs/Tariff.antt, `has`, `is_valid`, and the laws of a valid tariff in proofs/Validity.antt.
 #![tactic(auto)]
 
 ghost use Rattle.std.specs.Prelude.{◌≡◌, true, ◌&&◌, ◌||◌, ◌+◌, ◌≤◌, ◌<◌, leb, eqb, length, take};
 ghost use Rattle.laws.specs.Notions.{every, sum, bit};
-ghost use Rattle.tariff.specs.Tariff.{standing_most, record_length, tariff_of, standing_in, single_register, economy7, multi_register, region_fits, valid_tariff, record_check};
+ghost use Rattle.tariff.specs.Tariff.{standing_most, record_length, kind_of, tariff_of, standing_in, single_register, economy7, multi_register, region_fits, valid_tariff, record_check};
 
 use refusal::Check;
 use shares::{WHOLE, WHOLE_SHARE};
@@ -25,7 +25,7 @@ pub const ALL_FOURTEEN: u32 = 16_383;
 pub const RECORD_LENGTH: usize = 27;
 
 // A record: numbers 0 to 4, the rates (5 to 8), the steps (9 to 12) and what each region adds to the standing charge (13 to 26).
-#[derive(Clone, Copy)]
+#[derive(Clone, Copy, PartialEq, Eq)]
 pub struct Tariff {
     pub kind: u32,
     pub n: u32,
@@ -35,6 +35,28 @@ pub struct Tariff {
     pub rates: [u32; 4],
     pub steps: [u32; 4],
     pub regional: [u32; 14],
+}
+
+// What number 0 of a record may be.
+#[derive(Clone, Copy, Debug, PartialEq, Eq)]
+pub enum Kind {
+    SingleRegister = 1,
+    Economy7 = 2,
+    MultiRegister = 3,
+}
+
+impl Kind {
+    // The kind of a number, if there is one.
+    pub fn of(number: u32) -> Option<Kind>
+        ensures { result ≡ kind_of number }
+    {
+        match number {
+            1 => Some(Kind::SingleRegister),
+            2 => Some(Kind::Economy7),
+            3 => Some(Kind::MultiRegister),
+            _ => None,
+        }
+    }
 }
 
 // The tariff of a record.
@@ -58,6 +80,7 @@ pub fn tariff_of(x: &[u32]) -> Tariff
 }
 
 // Bit i of a set.
+#[tactic(auto, unfolding(laws::specs::Notions::bit))]
 pub fn has(set: u32, i: u32) -> bool
     requires { i < 32 }
     ensures { result ≡ bit set i }
@@ -65,116 +88,82 @@ pub fn has(set: u32, i: u32) -> bool
     (set >> i) % 2 == 1
 }
 
+#[tactic(auto, using(std::proofs::lemmas::Bool::Decides::nat_tests), unfolding(crate::specs::Tariff::single_register))]
 fn single_register(x: Tariff) -> bool
     ensures { result ≡ single_register x }
 {
-    let rates = x.rates;
-    let steps = x.steps;
     let tiers = x.n as usize;
-    if tiers < 1 {
-        return false;
-    }
-    if 4 < tiers {
-        return false;
-    }
-    fours::all_within(steps, tiers - 1, 1, STEP_MOST)
-        && fours::all_rising(steps, tiers - 1)
-        && fours::zero_from(rates, tiers)
-        && fours::zero_from(steps, tiers - 1)
+    (1..=4).contains(&tiers)
+        && fours::all_within(x.steps, tiers - 1, 1, STEP_MOST)
+        && fours::all_rising(x.steps, tiers - 1)
+        && fours::zero_from(x.rates, tiers)
+        && fours::zero_from(x.steps, tiers - 1)
 }
 
+#[tactic(auto, using(std::proofs::lemmas::Bool::Decides::nat_tests), unfolding(crate::specs::Tariff::economy7))]
 fn economy_7(x: Tariff) -> bool
     ensures { result ≡ economy7 x }
 {
-    let rates = x.rates;
-    let steps = x.steps;
-    x.n == 2 && fours::zero_from(rates, 2) && fours::zero_from(steps, 0)
+    x.n == 2 && fours::zero_from(x.rates, 2) && fours::zero_from(x.steps, 0)
 }
 
+#[tactic(auto, using(std::proofs::lemmas::Bool::Decides::nat_tests), unfolding(crate::specs::Tariff::multi_register))]
 fn multi_register(x: Tariff) -> bool
     ensures { result ≡ multi_register x }
 {
-    let rates = x.rates;
-    let steps = x.steps;
     let registers = x.n as usize;
-    if registers < 2 {
-        return false;
-    }
-    if 4 < registers {
-        return false;
-    }
-    fours::all_within(steps, registers, 0, WHOLE_SHARE)
-        && fours::sum_of(steps, registers) == WHOLE
-        && fours::zero_from(rates, registers)
-        && fours::zero_from(steps, registers)
+    (2..=4).contains(&registers)
+        && fours::all_within(x.steps, registers, 0, WHOLE_SHARE)
+        && fours::sum_of(x.steps, registers) == WHOLE
+        && fours::zero_from(x.rates, registers)
+        && fours::zero_from(x.steps, registers)
 }
 
 // Whether what a region adds leaves its standing charge within the most, and is 0 where the region is not offered.
 fn region_fits(standing: u32, added: u32, offered: bool) -> bool
     ensures { result ≡ (leb (standing + added) standing_most && (offered || eqb added 0)) }
 {
-    fours::wide(standing) + fours::wide(added) <= fours::wide(STANDING_MOST)
-        && (offered || added == 0)
+    u64::from(standing) + u64::from(added) <= u64::from(STANDING_MOST) && (offered || added == 0)
 }
 
 // Whether each of the fourteen regions has a number that fits.
 fn regions_fit(x: Tariff) -> bool
     ensures { result ≡ every 14 (region_fits x) }
 {
-    let regional = x.regional;
-    let mut region: u32 = 0;
-    while region < 14 {
-        let added = regional[region as usize];
-        if !region_fits(x.standing, added, has(x.regions, region)) {
-            return false;
-        }
-        region += 1;
-    }
-    true
+    (0..14).all(|region: u32| {
+        region_fits(
+            x.standing,
+            x.regional[region as usize],
+            has(x.regions, region),
+        )
+    })
 }
 
 // The standing charge of the region concerned.
+#[tactic(auto, using(crate::proofs::Validity::valid_standing_in), unfolding(crate::specs::Tariff::standing_in))]
 pub fn standing_in(x: Tariff, region: u32) -> u32
     requires { (valid_tariff x ≡ true) × (region < 14) }
     ensures { (result ≡ standing_in x region) × (result ≤ standing_most) }
 {
-    let regional = x.regional;
-    x.standing + regional[region as usize]
+    x.standing + x.regional[region as usize]
 }
 
 // Whether the numbers of a record are such as the papers allow.
+#[tactic(auto, using(std::proofs::lemmas::Bool::Decides::nat_tests), unfolding(crate::specs::Tariff::valid_tariff, crate::specs::Tariff::rates_within, crate::specs::Tariff::valid_kind))]
 pub fn is_valid(x: Tariff) -> bool
     ensures { result ≡ valid_tariff x }
 {
-    let rates = x.rates;
-    if STANDING_MOST < x.standing {
-        return false;
-    }
-    if x.regions < 1 {
-        return false;
-    }
-    if ALL_FOURTEEN < x.regions {
-        return false;
-    }
-    if x.methods < 1 {
-        return false;
-    }
-    if 3 < x.methods {
-        return false;
-    }
-    if !fours::all_within(rates, 4, 0, RATE_MOST) {
-        return false;
-    }
-    if !regions_fit(x) {
-        return false;
-    }
-    let kind = x.kind;
-    match kind {
-        1 => single_register(x),
-        2 => economy_7(x),
-        3 => multi_register(x),
-        _ => false,
-    }
+    x.standing <= STANDING_MOST
+        && (1..=ALL_FOURTEEN).contains(&x.regions)
+        && (1..=3).contains(&x.methods)
+        && fours::all_within(x.rates, 4, 0, RATE_MOST)
+        && regions_fit(x)
+        && match Kind::of(x.kind) {
+            Some(Kind::SingleRegister) => single_register(x),
+            Some(Kind::Economy7) => economy_7(x),
+            Some(Kind::MultiRegister) => multi_register(x),
+            None => false,
+        }
 }
 
 // The same of the 27 numbers of a record, as they lie.

@@ -6,8 +6,8 @@ use Prim.Native.Nat.{ℕ, suc, ◌+◌, ◌<◌, ◌≤◌}
 use native.Mathlib.Nat.{add-zero, add-suc, suc-add}
 use native.Mathlib.Numerals.{add-one}
 use native.Mathlib.Omega.{arith}
-use lib.ListN.{length, get_or, set, take, length-append, drop_of_length-le}
-use lib.Seq.{sets, sets-eq, length-sets, take-suc, length-take-le}
+use lib.ListN.{length, get_or, set, take, length-append}
+use lib.Seq.{sets, length-sets, take-suc}
 use Rattle.texts.specs.Texts.{bytes_of, decimal, spaced}
 use Rattle.texts.specs.Writing.{Puts}
 
@@ -16,11 +16,6 @@ sets_append [] b l i = ap (λ k. sets l k b) (sym (add-zero i))
 sets_append (x ∷ a) b l i =
     sets_append a b (set l i x) (suc i)
     ∙ ap (λ k. sets (sets (set l i x) (suc i) a) k b) (suc-add i (length a) ∙ sym (add-suc i (length a)))
-
--- up to the end of a buffer
-pub sets_end : (l s : List ℕ) (i : ℕ) → i + length s ≡ length l → sets l i s ≡ take i l ++ s
-sets_end l s i h =
-    sets-eq s l i (omega arith) ∙ ap (λ xs. take i l ++ s ++ xs) (drop_of_length-le l {i = i + length s} (omega arith)) ∙ append-nil (take i l ++ s)
 
 -- writing keeps the length
 pub puts_size : {l l₁ a : List ℕ} {at m : ℕ} → Puts l at a m l₁ → length l₁ ≡ length l
@@ -43,13 +38,6 @@ puts_none l at h = record { ends = sym (add-zero at); within = h; holds = refl }
 pub puts_byte : {l l₁ a : List ℕ} {at m : ℕ} (x : ℕ) → m < length l → Puts l at a m l₁
     → Puts l at (a ++ (x ∷ [])) (m + 1) (set l₁ m x)
 puts_byte {l} {l₁} {a} {at} {m} x h p = puts_behind p (record { ends = refl; within = omega (arith, puts_size p); holds = refl })
-
--- a turn of a loop that copies
-pub copy_more : (l s : List ℕ) (at i : ℕ) → i < length s → set (sets l at (take i s)) (at + i) (get_or s i 0) ≡ sets l at (take (i + 1) s)
-copy_more l s at i h =
-    ap (λ k. set (sets l at (take i s)) (at + k) (get_or s i 0)) (sym (length-take-le i s (omega arith)))
-    ∙ sym (sets_append (take i s) (get_or s i 0 ∷ []) l at)
-    ∙ ap (sets l at) (sym (take-suc s i 0 h) ∙ ap (λ k. take k s) (sym (add-one i)))
 
 -- numbers behind numbers
 spaced_append : (a b : List ℕ) → spaced (a ++ b) ≡ spaced a ++ spaced b

@@ -13,12 +13,9 @@ pub fn put_text(out: &mut [u8], at: usize, text: &[u8]) -> usize
     requires { at + length text.now ≤ length out.old }
     ensures { Puts out.old at text.now result out.new }
 {
-    let mut i: usize = 0;
-    while i < text.len() {
-        out[at + i] = text[i];
-        i += 1;
-    }
-    at + i
+    let end = at + text.len();
+    out[at..end].copy_from_slice(text);
+    end
 }
 
 // The two digits of a number below 100.
@@ -27,8 +24,8 @@ fn two_at(out: &mut [u8], at: usize, n: u64) -> usize
     requires at_in_bounds { at + 2 ≤ length out.old }
     ensures { Puts out.old at (two_digits n) result out.new }
 {
-    out[at] = 48 + (n / 10) as u8;
-    out[at + 1] = 48 + (n % 10) as u8;
+    out[at] = b'0' + (n / 10) as u8;
+    out[at + 1] = b'0' + (n % 10) as u8;
     at + 2
 }
 
@@ -37,15 +34,15 @@ fn digits_at(out: &mut [u8], at: usize, n: u64) -> usize
     requires { at + length (decimal n) ≤ length out.old }
     ensures { Puts out.old at (decimal n) result out.new }
 {
-    if n < 100 {
-        if n < 10 {
-            out[at] = 48 + n as u8;
-            return at + 1;
-        }
-        return two_at(out, at, n);
+    if n >= 100 {
+        let next = digits_at(out, at, n / 100);
+        two_at(out, next, n % 100)
+    } else if n >= 10 {
+        two_at(out, at, n)
+    } else {
+        out[at] = b'0' + n as u8;
+        at + 1
     }
-    let next = digits_at(out, at, n / 100);
-    two_at(out, next, n % 100)
 }
 
 // A number of up to 20 digits.
@@ -64,11 +61,9 @@ fn put_numbers(out: &mut [u8], at: usize, numbers: &[u64]) -> usize
     ensures upper_bound { result ≤ at + 21 * length numbers.now }
 {
     let mut next = at;
-    let mut i: usize = 0;
-    while i < numbers.len() {
+    for n in numbers {
         out[next] = b' ';
-        next = put_number(out, next + 1, numbers[i]);
-        i += 1;
+        next = put_number(out, next + 1, *n);
     }
     next
 }

@@ -17,23 +17,18 @@ use calendar::Period;
 use queries::Told;
 use refusal::Check;
 
+// Whether a tariff was open and is a draft.
+fn fell(before: Place, after: Place) -> bool
+    ensures { result ≡ fell before after }
+{
+    matches!(before.state, State::Open) && matches!(after.state, State::Draft | State::Marked)
+}
+
 // The bit of a code whose tariff was open and is a draft; 0 for every other.
 pub fn bit_if_fell(before: Place, after: Place, bit: u64) -> u64
     ensures { result ≡ cond (fell before after) bit 0 }
 {
-    let was = before.state;
-    let is = after.state;
-    match was {
-        State::Empty => 0,
-        State::Draft => 0,
-        State::Marked => 0,
-        State::Open => match is {
-            State::Empty => 0,
-            State::Draft => bit,
-            State::Marked => bit,
-            State::Open => 0,
-        },
-    }
+    if fell(before, after) { bit } else { 0 }
 }
 
 // The codes whose tariffs were open and are drafts: bit code - 1 of each.
@@ -42,13 +37,9 @@ fn fallen(before: [Place; 32], after: [Place; 32]) -> u32
 {
     let mut codes: u64 = 0;
     let mut bit: u64 = 1;
-    let mut i: usize = 0;
-    while i < 32 {
-        let p = before[i];
-        let q = after[i];
-        codes += bit_if_fell(p, q, bit);
+    for i in 0..32 {
+        codes += bit_if_fell(before[i], after[i], bit);
         bit *= 2;
-        i += 1;
     }
     codes as u32
 }

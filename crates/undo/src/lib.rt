@@ -28,13 +28,8 @@ fn in_states(places: [Place; 32], states: [Stood; 32]) -> [Place; 32]
     ensures { result ≡ zip_with (λ s. with_state s.state) states places }
 {
     let mut next = places;
-    let mut i: usize = 0;
-    while i < 32 {
-        let p = next[i];
-        let stood = states[i];
-        let state = stood.state;
-        next[i] = book::in_state(p, state);
-        i += 1;
+    for i in 0..32 {
+        next[i] = book::in_state(next[i], states[i].state);
     }
     next
 }

@@ -17,7 +17,7 @@ ghost use Rattle.verdict.specs.Rulings.{Finds, found_at, figures_by, Rules};
 
 use benchmark::Benchmarks;
 use cap::CellNumbers;
-use tariff::Tariff;
+use tariff::{Kind, Tariff};
 
 // The first cell that exceeds, as region and method.
 #[derive(Clone, Copy)]
@@ -40,24 +40,23 @@ pub struct Ruling {
     pub months: [u32; 12],
 }
 
-fn wide(x: u32) -> u64
-    ensures { result ≡ x }
-{
-    x as u64
-}
-
 // The arrangement that a tariff is held to.
+#[tactic(auto, using(std::proofs::lemmas::Bool::Decides::nat_tests), unfolding(charge::specs::Charge::arrangement))]
 pub fn arrangement_of(x: Tariff) -> usize
     ensures { (result ≡ arrangement x) × (result < 2) }
 {
-    if x.kind == 1 { 0 } else { 1 }
+    match Kind::of(x.kind) {
+        Some(Kind::SingleRegister) => 0,
+        _ => 1,
+    }
 }
 
 // The number of offered cells.
+#[tactic(auto, unfolding(crate::specs::Cells::cell_count))]
 pub fn cell_count(x: Tariff) -> u32
     ensures { result ≡ cell_count x }
 {
-    u32::count_ones(x.regions) * u32::count_ones(x.methods)
+    x.regions.count_ones() * x.methods.count_ones()
 }
 
 // The numbers of a cell in an arrangement, for a standing charge, from the 112 figures, m, the peak share, t and the days.
@@ -77,10 +76,10 @@ fn cell_numbers(
 {
     let at = benchmark::figure_index(region as usize, arrangement, method as usize, 0);
     CellNumbers {
-        lower: wide(charges[at]),
-        upper: wide(charges[at + 1]),
-        m: wide(m),
-        months: wide(months),
+        lower: u64::from(charges[at]),
+        upper: u64::from(charges[at + 1]),
+        m: u64::from(m),
+        months: u64::from(months),
         days,
         standing,
         peak,
@@ -98,11 +97,9 @@ pub fn numbers_in(
     requires { Lawful b × (arrangement < 2) × (standing ≤ standing_most) × (region < 14) × (method < 2) }
     ensures { (result ≡ cell_numbers b arrangement standing (cell region method)) × Fits result }
 {
-    let charges = b.charges;
-    let levels = b.levels;
     cell_numbers(
-        &charges,
-        levels[arrangement],
+        &b.charges,
+        b.levels[arrangement],
         b.peak,
         b.months,
         b.days,
@@ -118,9 +115,13 @@ pub fn numbers_of(b: Benchmarks, x: Tariff, region: u32, method: u32) -> CellNum
     requires { Lawful b × (valid_tariff x ≡ true) × (region < 14) × (method < 2) }
     ensures { (result ≡ tariff_numbers b x (cell region method)) × Fits result }
 {
-    let arrangement = arrangement_of(x);
-    let standing = tariff::standing_in(x, region);
-    numbers_in(b, arrangement, standing, region, method)
+    numbers_in(
+        b,
+        arrangement_of(x),
+        tariff::standing_in(x, region),
+        region,
+        method,
+    )
 }
 
 // The walk: by region, then method, both rising, to the first offered cell that exceeds.
@@ -128,40 +129,35 @@ pub fn first_over(b: Benchmarks, x: Tariff) -> Found
     requires { Lawful b × (valid_tariff x ≡ true) }
     ensures { Finds b x result }
 {
-    let charges = b.charges;
-    let levels = b.levels;
     let arrangement = arrangement_of(x);
-    let m = levels[arrangement];
-    let k = cap::corners_of(x, b.peak, wide(m));
-    let mut region: u32 = 0;
-    let found = 'walk: loop {
-        if 14 <= region {
-            break 'walk Found::Nowhere;
-        }
-        if tariff::has(x.regions, region) {
-            let standing = tariff::standing_in(x, region);
-            for method in 0..2 {
-                if tariff::has(x.methods, method) {
-                    let e = cell_numbers(
-                        &charges,
-                        m,
-                        b.peak,
-                        b.months,
-                        b.days,
-                        arrangement,
-                        standing,
-                        region,
-                        method,
-                    );
-                    if cap::exceeds(x, k, e) {
-                        break 'walk Found::Over(region, method);
+    let m = b.levels[arrangement];
+    let k = cap::corners_of(x, b.peak, u64::from(m));
+    'walk: {
+        for region in 0..14 {
+            if tariff::has(x.regions, region) {
+                let standing = tariff::standing_in(x, region);
+                for method in 0..2 {
+                    if tariff::has(x.methods, method) {
+                        let e = cell_numbers(
+                            &b.charges,
+                            m,
+                            b.peak,
+                            b.months,
+                            b.days,
+                            arrangement,
+                            standing,
+                            region,
+                            method,
+                        );
+                        if cap::exceeds(x, k, e) {
+                            break 'walk Found::Over(region, method);
+                        }
                     }
                 }
             }
         }
-        region += 1;
-    };
-    found
+        Found::Nowhere
+    }
 }
 
 // The verdict on a tariff.
@@ -169,8 +165,7 @@ pub fn verdict_of(b: Benchmarks, x: Tariff) -> Ruling
     requires { Lawful b × (valid_tariff x ≡ true) }
     ensures { Rules b x result }
 {
-    let found = first_over(b, x);
-    match found {
+    match first_over(b, x) {
         Found::Nowhere => Ruling {
             outcome: Outcome::Opens(cell_count(x)),
             months: [0; 12],
@@ -187,28 +182,15 @@ pub fn verdict_of(b: Benchmarks, x: Tariff) -> Ruling
     }
 }
 
-// The charges of a lent list.
-fn charges_of(charges: &[u32]) -> [u32; 112]
-    requires { length charges.now ≡ 112 }
-    ensures { result ≡ charges.now }
-{
-    let mut copy = [0u32; 112];
-    let mut i: usize = 0;
-    while i < 112 {
-        copy[i] = charges[i];
-        i += 1;
-    }
-    copy
-}
-
 // The figures of a sheet, from its parts.
 fn figures_by(charges: &[u32], levels: [u32; 2], peak: u32, months: u32, days: u32) -> Benchmarks
     requires { length charges.now ≡ 112 }
     ensures { result ≡ figures_by charges.now levels peak months days }
 {
-    let charges = charges_of(charges);
+    let mut copy = [0u32; 112];
+    copy.copy_from_slice(charges);
     Benchmarks {
-        charges,
+        charges: copy,
         levels,
         peak,
         months,

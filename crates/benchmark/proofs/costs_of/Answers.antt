@@ -1,9 +1,11 @@
 -- `benchmark::costs_of` meets its contract.
 -- Assumes nothing.
-use Rattle.laws.specs.Notions.{tabulate, tabulate_from}
+use lib.IntN.{nat_abs}
+use Rattle.std.proofs.Common.{arith}
+use Rattle.laws.proofs.Chains.{is_from_fn}
+use Rattle.benchmark.specs.Common.{costs_at}
 use Rattle.benchmark.proofs.costs_of.Goals as goal
 
 pub returns : goal.returns
-unfolding tabulate tabulate_from
 returns c =
-    rw (← c.costs_at.ensures.0, ← c.costs_at-2.ensures.0, ← c.costs_at-3.ensures.0, ← c.costs_at-4.ensures.0)
+    is_from_fn _ _ _ (λ f. nat_abs (costs_at c.args.part.now f)) 4 (λ k y q l w. grind arith) c.from_fn.ensures.items

@@ -10,7 +10,7 @@ pub returns-then-i-t : goal.returns-then-i-t
 returns-then-i-t c =
     let t = c.args.t in
     let e = sym (step_corner c.args.end (t.n - 1) t.steps c.args.i (omega (arith, c.if-i-t.true))) in
-    (c.wide.ensures ∙ e, omega (arith, c.wide.ensures, e, corner_below c.args.end t c.requires.0 c.args.i))
+    (c.from.ensures ∙ e, omega (arith, c.from.ensures, e, corner_below c.args.end t c.requires.0 c.args.i))
 
 pub returns-else-i-t : goal.returns-else-i-t
 returns-else-i-t c =

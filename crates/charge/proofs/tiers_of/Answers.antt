@@ -1,11 +1,11 @@
 -- `charge::tiers_of` meets its contract. A single-register tariff keeps its steps and its rates, scaled; one with a weighted rate has
 -- one tier.
 -- Assumes nothing.
-use Rattle.std.proofs.Common.{◌≡◌, true, false, ℕ, ◌*◌, ◌≤◌, List, [], ◌∷◌, length, get_or, rules, arith, refl, sym, ◌∙◌, ap, subst}
+use Rattle.std.proofs.Common.{◌≡◌, true, false, ℕ, ◌*◌, ◌≤◌, List, [], ◌∷◌, length, rules, arith, refl, sym, ◌∙◌, subst}
 use borrow.Author.Tests.{ne_eqb}
 use lib.Dec.{eqb}
 use Rattle.laws.specs.Notions.{sum}
-use Rattle.laws.proofs.Parts.{four}
+use Rattle.laws.proofs.Filled.{map_filled}
 use Rattle.shares.specs.Shares.{whole_share, weighted}
 use Rattle.tariff.specs.declared.Tariff.{Tariff}
 use Rattle.tariff.specs.Tariff.{valid_tariff}
@@ -20,11 +20,9 @@ use Rattle.charge.proofs.tiers_of.Goals as goal
 abbrev own : Tariff → List ℕ → Tiers
 own x rates = record { n = x.n; rates = rates; steps = x.steps }
 
-single : (peak : ℕ) (x : Tariff) → x.kind ≡ 1 → length x.rates ≡ 4 → (a b c d : ℕ)
-    → a ≡ get_or x.rates 0 0 → b ≡ get_or x.rates 1 0 → c ≡ get_or x.rates 2 0 → d ≡ get_or x.rates 3 0
-    → own x (whole_share * a ∷ whole_share * b ∷ whole_share * c ∷ whole_share * d ∷ []) ≡ tiers_of peak x
+single : (peak : ℕ) (x : Tariff) → x.kind ≡ 1 → (rates : List ℕ) → rates ≡ scaled_rates x.rates → own x rates ≡ tiers_of peak x
 unfolding tiers_of
-single peak x k l a b c d p q r s = rw (k, p, q, r, s) (sym (ap (λ (rates : List ℕ). own x (scaled_rates rates)) (four x.rates l)))
+single peak x k rates r = rw (k, r)
 
 -- the one tier of the other kinds
 abbrev one : ℕ → Tiers
@@ -55,10 +53,13 @@ weighted_rate-requires-in_default c =
 
 pub returns-in-1 : goal.returns-in-1
 returns-in-1 c =
-    let l : length c.args.x.rates ≡ 4 = search rules in
-    let m : length c.args.x.steps ≡ 4 = search rules in
-    made c.args.peak c.args.x c.requires.0 c.requires.1 l m _
-    (single c.args.peak c.args.x c.in-1.is l _ _ _ _ c.wide.ensures c.wide-in-1.ensures c.wide-in-1-2.ensures c.wide-in-1-3.ensures)
+    let x = c.args.x in
+    let l : length x.rates ≡ 4 = search rules in
+    let m : length x.steps ≡ 4 = search rules in
+    let scaled : c.map-rates.result ≡ scaled_rates x.rates =
+    map_filled (λ r. whole_share * r) 0 x.rates _ (omega (arith, c.map-rates.ensures.items.long))
+    (λ i k. let w = c.map-rates.ensures.items.at i 0 0 (omega arith) in grind arith) in
+    made c.args.peak x c.requires.0 c.requires.1 l m _ (single c.args.peak x c.in-1.is _ scaled)
 
 pub returns-in-2 : goal.returns-in-2
 returns-in-2 c =

@@ -12,17 +12,17 @@ use Rattle.figures.proofs.charge_at.Goals as goal
 -- NC, as it was read
 pub ppm_of-requires : goal.ppm_of-requires
 ppm_of-requires c =
-    let network-small : c.wide-network.result ≤ 100000000 = rw c.wide-network.ensures (money_most _ c.requires.0 _ (omega arith) (omega arith) (omega arith)) in
+    let network-small : c.from-network.result ≤ 100000000 = rw c.from-network.ensures (money_most _ c.requires.0 _ (omega arith) (omega arith) (omega arith)) in
     (ppm_most _ c.requires.0 _ (omega arith) (omega arith) (omega arith), omega (arith, network-small))
 
 pub returns : goal.returns
 unfolding nc panc
 returns c =
-    let network-small : c.wide-network.result ≤ 100000000 = rw c.wide-network.ensures (money_most _ c.requires.0 _ (omega arith) (omega arith) (omega arith)) in
+    let network-small : c.from-network.result ≤ 100000000 = rw c.from-network.ensures (money_most _ c.requires.0 _ (omega arith) (omega arith) (omega arith)) in
     let s = c.args.s.now in
-    let share : pos c.ppm_of.result ≡ panc s c.args.method (pos c.wide-network.result) =
+    let share : pos c.ppm_of.result ≡ panc s c.args.method (pos c.from-network.result) =
     ap pos c.ppm_of.ensures.0 ∙ sym (round_alike _ 1000000) in (
-      ap (λ p. pos c.args.sum +ℤ pos c.wide-network.result +ℤ p) share
-          ∙ ap (λ n. pos c.args.sum +ℤ pos n +ℤ panc s c.args.method (pos n)) c.wide-network.ensures,
+      ap (λ p. pos c.args.sum +ℤ pos c.from-network.result +ℤ p) share
+          ∙ ap (λ n. pos c.args.sum +ℤ pos n +ℤ panc s c.args.method (pos n)) c.from-network.ensures,
       omega (arith, network-small),
     )

@@ -1,28 +1,29 @@
--- `fours::all_rising` meets its contract. The loop's invariant: each of the first i numbers is below the one after it.
--- The test is made k - 1 times, and never where k is 0.
+-- `fours::all_rising` meets its contract: `all` looks at each two neighbours of the first k numbers.
 -- Assumes nothing.
-use mathlib.Core.Path.{refl}
-use native.Mathlib.Omega.{arith}
-use borrow.Author.Tests.{lt-ltb, le-ltb}
-use Rattle.laws.specs.Notions.{every}
-use Rattle.laws.proofs.Every.{every_more}
+use mathlib.Core.Path.{◌≡◌}
+use mathlib.Core.Bool.{Bool}
+use mathlib.Core.List.{List}
+use Prim.Native.Nat.{ℕ, ◌<◌, ◌+◌, ◌-◌, ◌≤◌}
+use lib.Dec.{ltb}
+use lib.ListN.{get_or, take, length}
+use Rattle.std.proofs.Common.{rules, arith}
+use Rattle.std.specs.Bool.{Decides}
+use Rattle.std.specs.List.{AllAdjacentBelow}
+use Rattle.std.proofs.iter.runs.Made.{chains}
+use Rattle.std.proofs.lemmas.Bool.Decides.{Decides-ltb, Decides-like}
+use Rattle.std.proofs.lemmas.Grind.{common_steps}
+use Rattle.laws.proofs.Chains.{is_every}
 use Rattle.fours.specs.Fours.{rising}
-use Rattle.laws.proofs.Answers.{stops, ends}
 use Rattle.fours.proofs.all_rising.Goals as goal
 
-pub loop-i-init : goal.loop-i-init
-unfolding every
-loop-i-init c = (omega arith, refl)
-
-pub returns-then-a-i : goal.returns-then-a-i
+is_rising :
+    (a : List ℕ) (k : ℕ) (r : Bool) →
+    k ≤ length a → Decides r (AllAdjacentBelow (λ x y. x < y) (take k a) (length (take k a))) → r ≡ rising a k
 unfolding rising
-returns-then-a-i c = stops _ _ c.loop-i.i (omega arith) (le-ltb _ _ c.if-a-i.true)
-
-pub loop-i-preserved : goal.loop-i-preserved
-loop-i-preserved c = (omega arith, every_more _ _ c.loop-i.invariant.1 (lt-ltb _ _ c.if-a-i.false))
+is_rising a k r l d =
+    is_every (λ i. ltb (get_or a i 0) (get_or a (i + 1) 0)) (λ i. get_or a i 0 < get_or a (i + 1) 0) (k - 1) r
+    (λ i h. Decides-ltb (get_or a i 0) (get_or a (i + 1) 0))
+    (Decides-like r (λ g i h. grind (arith, common_steps, g i 0)) (λ g i x h. grind (arith, common_steps, g i)) d)
 
 pub returns : goal.returns
-unfolding rising
-returns c =
-    let lp = c.loop-i in
-    ends _ _ lp.i lp.invariant.0 (omega arith) lp.invariant.1
+returns c = is_rising _ _ _ (omega arith) (search (rules, chains))

@@ -1,38 +1,32 @@
--- `fours::all_within` meets its contract. The loop's invariant: each number before i is from low to high.
+-- `fours::all_within` meets its contract: `all` looks at the first k numbers, and the range says of each what the test does.
 -- Assumes nothing.
-use mathlib.Core.Path.{refl}
-use native.Mathlib.Omega.{arith}
-use borrow.Author.Tests.{le-leb, lt-leb}
-use Rattle.laws.specs.Notions.{every}
-use Rattle.laws.proofs.Every.{every_more, and_both}
+use mathlib.Core.Path.{◌≡◌}
+use mathlib.Core.Bool.{Bool, ◌&&◌}
+use mathlib.Core.List.{List}
+use Prim.Native.Nat.{ℕ, ◌≤◌}
+use lib.Dec.{leb}
+use lib.ListN.{get_or, take, length}
+use Rattle.std.proofs.Common.{rules, arith}
+use Rattle.std.specs.Bool.{Decides}
+use Rattle.std.specs.List.{All}
+use Rattle.std.proofs.lemmas.Bool.Decides.{nat_tests, Decides-like}
+use Rattle.std.proofs.lemmas.Grind.{common_steps}
+use Rattle.std.proofs.iter.runs.Made.{chains}
+use Rattle.laws.proofs.Chains.{is_every}
 use Rattle.fours.specs.Fours.{within}
-use Rattle.laws.proofs.Answers.{stops, ends}
 use Rattle.fours.proofs.all_within.Goals as goal
 
-pub loop-i-init : goal.loop-i-init
-unfolding every
-loop-i-init c = (omega arith, refl)
+between : (low high x : ℕ) → Decides (leb low x && leb x high) ((low ≤ x) × (x ≤ high))
+between low high x = grind (arith, nat_tests)
 
-pub returns-then-a-i : goal.returns-then-a-i
+is_within :
+    (a : List ℕ) (k low high : ℕ) (r : Bool) →
+    k ≤ length a → Decides r (All (λ x. (low ≤ x) × (x ≤ high)) (take k a)) → r ≡ within a k low high
 unfolding within
-returns-then-a-i c =
-    stops _ _ c.loop-i.i c.loop-i-test.true (rw (lt-leb _ _ c.if-a-i.true))
-
-pub returns-then-high-a : goal.returns-then-high-a
-unfolding within
-returns-then-high-a c =
-    stops _ _ c.loop-i.i c.loop-i-test.true
-    (rw (le-leb _ _ c.if-a-i.false, lt-leb _ _ c.if-high-a.true))
-
-pub loop-i-preserved : goal.loop-i-preserved
-loop-i-preserved c = (
-  omega arith,
-  every_more _ _ c.loop-i.invariant.1
-      (and_both _ _ (le-leb _ _ c.if-a-i.false) (le-leb _ _ c.if-high-a.false)),
-)
+is_within a k low high r l d =
+    is_every (λ i. leb low (get_or a i 0) && leb (get_or a i 0) high) (λ i. (low ≤ get_or a i 0) × (get_or a i 0 ≤ high)) k r
+    (λ i h. between low high (get_or a i 0))
+    (Decides-like r (λ g i h. grind (arith, common_steps, g i 0)) (λ g i x h. grind (arith, common_steps, g i)) d)
 
 pub returns : goal.returns
-unfolding within
-returns c =
-    let lp = c.loop-i in
-    ends _ _ lp.i lp.invariant.0 c.loop-i-test.false lp.invariant.1
+returns c = is_within _ _ _ _ _ (omega arith) (search (rules, chains))

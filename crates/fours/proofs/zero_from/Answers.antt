@@ -1,28 +1,33 @@
--- `fours::zero_from` meets its contract. The loop's invariant: each place from k to i is 0, and those before k are not asked.
+-- `fours::zero_from` meets its contract: `all` looks at the places from k on, and those before k are not asked.
 -- Assumes nothing.
-use native.Mathlib.Omega.{arith}
-use borrow.Author.Tests.{lt-ltb, le-ltb, eq-eqb, ne_eqb}
-use Rattle.laws.proofs.Every.{every_more, every_all}
+use mathlib.Core.Path.{◌≡◌}
+use mathlib.Core.Bool.{Bool, ◌||◌}
+use mathlib.Core.List.{List}
+use Prim.Native.Nat.{ℕ, ◌≤◌, ◌-◌, ◌+◌}
+use lib.Dec.{ltb, eqb}
+use lib.ListN.{get_or, take, drop, length}
+use Rattle.std.proofs.Common.{rules, arith}
+use Rattle.std.specs.Bool.{Decides}
+use Rattle.std.specs.List.{All}
+use Rattle.std.proofs.iter.runs.Made.{chains}
+use Rattle.std.proofs.lemmas.Bool.Decides.{nat_tests, Decides-like}
+use Rattle.std.proofs.lemmas.Grind.{common_steps}
+use Rattle.laws.proofs.Chains.{is_every}
 use Rattle.fours.specs.Fours.{zero_from}
-use Rattle.laws.proofs.Answers.{stops, ends}
 use Rattle.fours.proofs.zero_from.Goals as goal
 
-pub loop-i-init : goal.loop-i-init
-loop-i-init c = (omega arith, omega arith, every_all _ _ (λ j h. rw (lt-ltb j c.args.k h)))
+unused : (k i x : ℕ) → Decides (ltb i k || eqb x 0) (k ≤ i → x ≡ 0)
+unused k i x = grind (arith, nat_tests)
 
-pub returns-then-a-i-ne0 : goal.returns-then-a-i-ne0
+is_zero_from : (a : List ℕ) (k : ℕ) (r : Bool) → length a ≡ 4 → Decides r (All (λ x. x ≡ 0) (take (4 - k) (drop k a))) → r ≡ zero_from a k
 unfolding zero_from
-returns-then-a-i-ne0 c =
-    let lp = c.loop-i in
-    stops _ 4 lp.i c.loop-i-test.true (rw (le-ltb _ _ lp.invariant.0) (ne_eqb _ _ c.if-a-i-ne0.true))
-
-pub loop-i-preserved : goal.loop-i-preserved
-loop-i-preserved c =
-    let lp = c.loop-i in
-    (omega arith, omega arith, every_more _ _ lp.invariant.2 (rw (le-ltb _ _ lp.invariant.0) (eq-eqb _ _ c.if-a-i-ne0.false)))
+is_zero_from a k r l d =
+    is_every (λ i. ltb i k || eqb (get_or a i 0) 0) (λ i. k ≤ i → get_or a i 0 ≡ 0) 4 r
+    (λ i h. unused k i (get_or a i 0))
+    (Decides-like r
+    (λ g i h m. grind (arith, common_steps, g (i - k) 0))
+    (λ g i x h. grind (arith, common_steps, g (k + i)))
+    d)
 
 pub returns : goal.returns
-unfolding zero_from
-returns c =
-    let lp = c.loop-i in
-    ends _ 4 lp.i lp.invariant.1 c.loop-i-test.false lp.invariant.2
+returns c = is_zero_from _ _ _ (omega arith) (search (rules, chains))

@@ -1,18 +1,12 @@
 -- `image_book::are_canonical` meets its contract.
 -- Assumes nothing.
-use mathlib.Core.Path.{refl, sym, ◌∙◌}
-use native.Mathlib.Omega.{arith}
-use Rattle.laws.specs.Notions.{every}
-use Rattle.laws.proofs.Every.{every_more, every_not}
+use Rattle.std.proofs.Common.{rules, tests, ◌∙◌, refl}
+use Rattle.std.proofs.lemmas.Iterator.{YieldsList-from_range}
+use Rattle.std.proofs.lemmas.Iterator.Search.{all_from_yields_List}
+use Rattle.image.proofs.Each.{every_listed}
+use Rattle.image_book.specs.Testing.{canonical_at}
 use Rattle.image_book.proofs.are_canonical.Goals as goal
 
-pub loop-i-init : goal.loop-i-init
-unfolding every
-loop-i-init c = (omega arith, refl)
-
-pub returns-then-not-is_canonical_at : goal.returns-then-not-is_canonical_at
-returns-then-not-is_canonical_at c =
-    sym (every_not _ 32 _ (omega (arith, c.loop-i-test.true)) (sym c.is_canonical_at.ensures ∙ c.if-not-is_canonical_at.true))
-
-pub loop-i-preserved : goal.loop-i-preserved
-loop-i-preserved c = (omega (arith, c.loop-i-test.true), every_more _ _ c.loop-i.invariant.1 (sym c.is_canonical_at.ensures ∙ c.if-not-is_canonical_at.false))
+pub returns : goal.returns
+returns c =
+    all_from_yields_List (canonical_at c.args.image.now) _ _ _ c.all.ensures.ran (YieldsList-from_range 0 32 32 refl refl) (λ x b q k. search (rules, tests)) ∙ every_listed _ 32

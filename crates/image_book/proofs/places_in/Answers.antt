@@ -1,11 +1,13 @@
 -- `image_book::places_in` meets its contract.
 -- Assumes nothing.
-use native.Mathlib.Omega.{arith}
-use Rattle.image_book.proofs.Whole.{are_places}
+use Rattle.std.proofs.Common.{rules}
+use Rattle.book.specs.Book.{beyond}
+use Rattle.image.specs.Layout.{start_of}
+use Rattle.image.specs.Image.{place_at}
+use Rattle.image_book.proofs.Whole.{made_each, are_places}
 use Rattle.image_book.proofs.places_in.Goals as goal
 
 pub returns : goal.returns
 returns c =
-    let lp = c.loop-i in
-    let l = c.args.image.now in
-    are_places l lp.places lp.invariant.1 (λ j h. lp.invariant.2 j (omega (arith, c.loop-i-test.false)))
+    let all = c.from_fn.ensures.items in
+    are_places _ _ all.long (λ i. made_each _ _ (λ j. place_at c.args.image.now (start_of j)) (λ j y q k. search rules) _ 32 all i beyond)

@@ -7,15 +7,10 @@ use Rattle.image.specs.Layout.{kept_states_at}
 use Rattle.image_sheets.proofs.States.{states_more, states_apart}
 use Rattle.image_sheets.proofs.states_back.Goals as goal
 
-pub loop-back-preserved : goal.loop-back-preserved
-loop-back-preserved c =
-    let lp = c.loop-back in
-    let t = c.loop-back-test.true in
-    let at = c.start_of-at.ensures in
-    (omega (arith, t), states_more _ _ _ _ _ _ lp.invariant.1 at.0 (omega (arith, at.1, c.requires)) (states_apart lp.invariant.1 (kept_states_at + lp.back) (omega (arith, t))))
+pub loop-i-preserved : goal.loop-i-preserved
+loop-i-preserved c =
+    let lp = c.loop-i in
+    states_more _ _ _ _ _ _ lp.invariant c.start_of.ensures.0 (omega arith) (states_apart lp.invariant (kept_states_at + lp.i) (omega arith))
 
 pub returns : goal.returns
-returns c =
-    let lp = c.loop-back in
-    let end : lp.back ≡ 32 = omega (arith, lp.invariant.0, c.loop-back-test.false) in
-    rw end at lp.invariant.1
+returns c = let end : c.loop-i.i ≡ 32 = omega arith in rw end at c.loop-i.invariant

@@ -3,7 +3,8 @@
 use native.Mathlib.Omega.{arith}
 use Rattle.book.specs.Calls.{sheet_at}
 use Rattle.image.specs.Layout.{loaded_at}
-use Rattle.image_sheets.proofs.Parts.{written_one, sheet_written}
+use Rattle.image.proofs.Writing.{written_one}
+use Rattle.image_sheets.proofs.Parts.{sheet_written}
 use Rattle.image_sheets.proofs.write_sheet.Goals as goal
 
 pub returns : goal.returns

@@ -1,14 +1,22 @@
-use Rattle.std.proofs.Common.{◌∙◌, arith}
-use Rattle.lines.proofs.Splitting.{spaces_more, spaces_stop, spaces_end}
+use Rattle.std.proofs.Common.{rules, tests, ◌∙◌, ap, drop, arith, eqb}
+use Rattle.std.specs.Slice.Iter.{iter_rest}
+use Rattle.std.proofs.lemmas.Iterator.{YieldsList-from_slice}
+use Rattle.std.proofs.lemmas.Iterator.Consumers.{count_from_yields_List}
+use Rattle.std.proofs.lemmas.Iterator.Search.{YieldsList-from_take_while}
+use Rattle.std.proofs.lemmas.List.{take_rest}
+use Rattle.std.proofs.lemmas.List.Folds.{length-prefix_len}
+use Rattle.lines.proofs.Splitting.{spaces_are}
 use Rattle.lines.proofs.word_start.Goals as goal
 
-pub returns-then-line-i-ne32-clause-value : goal.returns-then-line-i-ne32-clause-value
-returns-then-line-i-ne32-clause-value c =
-    omega (arith, c.loop-i.invariant.1, spaces_stop c.args.line.now c.loop-i.i c.loop-i-test.true c.if-line-i-ne32.true)
-
-pub loop-i-preserved : goal.loop-i-preserved
-loop-i-preserved c =
-    (omega arith, c.loop-i.invariant.1 ∙ spaces_more c.args.line.now c.loop-i.i c.loop-i-test.true c.if-line-i-ne32.false)
-
 pub returns-clause-value : goal.returns-clause-value
-returns-clause-value c = omega (arith, c.loop-i.invariant.1, spaces_end c.args.line.now c.loop-i.i c.loop-i-test.false)
+returns-clause-value c =
+    let rest = drop c.args.from c.args.line.now in
+    omega (
+      arith,
+      count_from_yields_List c.take_while.result _ c.count.ensures.ran
+          (YieldsList-from_take_while _ (λ x. eqb x 32)
+          (YieldsList-from_slice rest (ap iter_rest c.take_while.ensures.source ∙ c.iter.ensures.rest ∙ take_rest c.args.line.now c.args.from))
+          c.take_while.ensures.closure c.take_while.ensures.done λ x b q k. search (rules, tests)),
+      length-prefix_len (λ x. eqb x 32) rest,
+      spaces_are rest,
+    )

@@ -1,15 +1,13 @@
-use Rattle.std.specs.Cmp.Lexicographic.{same_text, other_text}
-use Rattle.naming.proofs.Names.{names_nothing, names_it, names_none}
+use Rattle.std.proofs.Common.{◌∙◌, sym, arith}
+use Rattle.naming.proofs.Names.{names_nothing, names}
 use Rattle.naming.proofs.call_named.Goals as goal
 
-pub returns-then-word-eq0 : goal.returns-then-word-eq0
-returns-then-word-eq0 c = names_nothing c.args.word.now c.if-word-eq0.true
+pub returns-in_err-first : goal.returns-in_err-first
+returns-in_err-first c = rw c.from_residual.ensures (names_nothing c.args.word.now (omega (arith, c.in_err-first.ensures.item.3)))
 
 -- only the call whose name begins as the word does can be named by it
-pub returns-then-eq : goal.returns-then-eq
-returns-then-eq c =
-    names_it _ _ c.beginning-call.result c.form_of-form.ensures.text (same_text _ _ c.if-eq.ensures)
-
 pub returns : goal.returns
 returns c =
-    names_none _ _ c.beginning-call.result c.form_of-form.ensures.text c.beginning-call.ensures (other_text _ _ c.if-eq.ensures)
+    let first = c.in_ok-first.ensures.item.4 (omega arith) 0 in
+    c.then_some.ensures
+    ∙ names _ _ c.beginning-call.result c.form_of.ensures.text (λ w e. c.beginning-call.ensures w (e ∙ sym first)) _ c.eq.ensures

@@ -11,7 +11,7 @@ use Rattle.rebating.proofs.first_accounts.Goals as goal
 
 pub loop-i-init : goal.loop-i-init
 unfolding first_accounts
-loop-i-init c = (omega arith, simp length-replicate, refl)
+loop-i-init c = (simp length-replicate, refl)
 
 pub loop-i-preserved : goal.loop-i-preserved
 loop-i-preserved c =
@@ -19,9 +19,8 @@ loop-i-preserved c =
     let ns = c.args.numbers.now in
     let i = lp.i in
     let a = c.account_of.result in (
-      omega (arith, c.loop-i-test.true),
-      length-set lp.accounts i a ∙ lp.invariant.1,
-      stored_more lp.accounts i a (omega (arith, lp.invariant.1, c.requires.0, c.loop-i-test.true)) lp.invariant.2
+      length-set lp.accounts i a ∙ lp.invariant.0,
+      stored_more lp.accounts i a (omega (arith, lp.invariant.0, c.requires.0, c.loop-i-test.true)) lp.invariant.1
           ∙ ap (λ x. first_accounts i ns ++ (x ∷ [])) (rw rest at c.account_of.ensures)
           ∙ sym (accounts_more i ns),
     )

@@ -12,28 +12,28 @@ returns-in_default-clause-value c =
     let s = c.word_start-start.ensures in
     call_unknown (word_at s.value s.upper_bound c.if-start-line.false c.word_end-end.ensures.value) _ _ c.in_default.ensures
 
-pub returns-in-Bad-clause-value : goal.returns-in-Bad-clause-value
-returns-in-Bad-clause-value c =
+pub returns-in-Err-clause-value : goal.returns-in-Err-clause-value
+returns-in-Err-clause-value c =
     let s = c.word_start-start.ensures in
-    call_bad (word_at s.value s.upper_bound c.if-start-line.false c.word_end-end.ensures.value) c.args.desk c.args.skipped c.in-By.ensures c.in-Bad.ensures.value
+    call_bad (word_at s.value s.upper_bound c.if-start-line.false c.word_end-end.ensures.value) c.args.desk c.args.skipped c.in-Some.ensures c.in-Err.ensures.value
 
-pub returns-then-right_count-clause-value : goal.returns-then-right_count-clause-value
-returns-then-right_count-clause-value c =
+pub returns-in-Ok-clause-value : goal.returns-in-Ok-clause-value
+returns-in-Ok-clause-value c =
     let s = c.word_start-start.ensures in
-    call_asks (word_at s.value s.upper_bound c.if-start-line.false c.word_end-end.ensures.value) _ _ c.in-By.ensures c.in-All.ensures.value
+    call_asks (word_at s.value s.upper_bound c.if-start-line.false c.word_end-end.ensures.value) _ _ c.in-Some.ensures c.in-Ok.ensures.value
     (sym c.right_count.ensures ∙ c.if-right_count.true)
 
-pub returns-then-right_count-clause-standing_for : goal.returns-then-right_count-clause-standing_for
-returns-then-right_count-clause-standing_for c =
+pub returns-in-Ok-clause-standing_for : goal.returns-in-Ok-clause-standing_for
+returns-in-Ok-clause-standing_for c =
     let s = c.word_start-start.ensures in
-    let written = c.in-All.ensures.written in
-    ready (word_at s.value s.upper_bound c.if-start-line.false c.word_end-end.ensures.value) _ _ c.numbers_from-read.new.out
+    let written = c.in-Ok.ensures.written in
+    ready (word_at s.value s.upper_bound c.if-start-line.false c.word_end-end.ensures.value) _ _ c.numbers_from.new.out
     (sym c.right_count.ensures ∙ c.if-right_count.true)
-    (omega (arith, written.0, c.numbers_from-read.auto.out, length-drop c.word_end-end.result c.args.line.now, c.requires.from_in_bounds))
+    (omega (arith, written.0, c.numbers_from.auto.out, length-drop c.word_end-end.result c.args.line.now, c.requires.from_in_bounds))
     written.1
 
-pub returns-else-right_count-clause-value : goal.returns-else-right_count-clause-value
-returns-else-right_count-clause-value c =
+pub returns-in-Ok-2-clause-value : goal.returns-in-Ok-2-clause-value
+returns-in-Ok-2-clause-value c =
     let s = c.word_start-start.ensures in
-    call_wrong (word_at s.value s.upper_bound c.if-start-line.false c.word_end-end.ensures.value) _ _ c.in-By.ensures c.in-All.ensures.value
+    call_wrong (word_at s.value s.upper_bound c.if-start-line.false c.word_end-end.ensures.value) _ _ c.in-Some.ensures c.in-Ok.ensures.value
     (sym c.right_count.ensures ∙ c.if-right_count.false)

@@ -11,11 +11,11 @@ use Rattle.sheet.proofs.indexed_term.Goals as goal
 pub rounded-requires : goal.rounded-requires
 rounded-requires c =
     let s = c.args.part.now in
-    let a : c.wide.result ≤ 100000000 = rw c.wide.ensures (base_most s c.requires.0 _ (omega arith) c.requires.1) in
-    let b : c.wide-2.result ≤ 1000000000 = rw c.wide-2.ensures (current_most s c.requires.0 _ (omega arith) c.requires.2 c.requires.3) in (
+    let a : c.from.result ≤ 100000000 = rw c.from.ensures (base_most s c.requires.0 _ (omega arith) c.requires.1) in
+    let b : c.from-2.result ≤ 1000000000 = rw c.from-2.ensures (current_most s c.requires.0 _ (omega arith) c.requires.2 c.requires.3) in (
       omega (arith, mul-le-mul {n₂ = 100000000} {m₂ = 1000000000} a b),
-      rw c.wide-3.ensures (initial_some s c.requires.0 _ (omega arith) c.requires.4 c.requires.5),
-      rw c.wide-3.ensures (initial_most s c.requires.0 _ (omega arith) c.requires.4 c.requires.5),
+      rw c.from-3.ensures (initial_some s c.requires.0 _ (omega arith) c.requires.4 c.requires.5),
+      rw c.from-3.ensures (initial_most s c.requires.0 _ (omega arith) c.requires.4 c.requires.5),
     )
 
 pub returns : goal.returns

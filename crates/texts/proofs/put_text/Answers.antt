@@ -1,7 +1,10 @@
-use Rattle.std.proofs.Common.{◌∙◌, ◌+◌, ap, set, get_or, arith}
-use Rattle.texts.proofs.Writing.{copy_more}
+use Rattle.std.proofs.Common.{◌≡◌, ◌+◌, ◌-◌, ◌≤◌, length, refl, arith, append_assoc}
+use Rattle.std.proofs.lemmas.List.Edits.{sets-eq}
+use Rattle.std.proofs.Math.Seq.{drop-drop}
 use Rattle.texts.proofs.put_text.Goals as goal
 
-pub loop-i-preserved : goal.loop-i-preserved
-loop-i-preserved c =
-    (omega arith, ap (λ l. set l (c.args.at + c.loop-i.i) (get_or c.args.text.now c.loop-i.i 0)) c.loop-i.invariant.1 ∙ copy_more _ _ _ c.loop-i.i (omega arith))
+pub returns : goal.returns
+returns c =
+    let e : c.args.at + length c.args.text.now - c.args.at ≡ length c.args.text.now = omega arith in
+    let h : c.args.at + length c.args.text.now ≤ length c.args.out.now = omega arith in
+    record { ends = refl; within = h; holds = simp (c.copy_from_slice.ensures.after, e, sets-eq, drop-drop, append_assoc) }

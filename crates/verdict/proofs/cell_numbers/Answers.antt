@@ -12,6 +12,6 @@ returns c =
     let f = c.figure_index-at in
     λ b q l k t d.
     numbers_are b _ _ _ _ f.result _ f.ensures.0
-    (c.wide.ensures ∙ ap (λ (cs : List ℕ). get_or cs f.result 0) (sym q))
-    (c.wide-2.ensures ∙ ap (λ (cs : List ℕ). get_or cs (f.result + 1) 0) (sym q))
-    (c.wide-3.ensures ∙ sym l) (c.wide-4.ensures ∙ sym t) (sym d) refl (sym k)
+    (c.from.ensures ∙ ap (λ (cs : List ℕ). get_or cs f.result 0) (sym q))
+    (c.from-2.ensures ∙ ap (λ (cs : List ℕ). get_or cs (f.result + 1) 0) (sym q))
+    (c.from-3.ensures ∙ sym l) (c.from-4.ensures ∙ sym t) (sym d) refl (sym k)

@@ -162,7 +162,9 @@ pub fn write(image: &mut [u32], at: usize, x: &[u32])
     requires { at + length x.now ≤ length image.old }
     ensures { Written image.old image.new at (length x.now) (λ j. word x.now j) }
 {
-    image[at..at + x.len()].copy_from_slice(x);
+    for i in 0..x.len() {
+        image[at + i] = x[i];
+    }
 }
 
 // n words, copied to others that stand behind them or before them.
